@@ -1,0 +1,24 @@
+-- The first number at which a test holds is the one below which it never does.
+use Prim.Native.Nat.{ℕ, zero, suc, _<_}
+use mathlib.Core.Path.{_≡_, refl, sym, ap, _∙_}
+use mathlib.Core.Logic.{⊎-elim}
+use mathlib.Core.Bool.{Bool, true, false, cond}
+use mathlib.Core.Option.{Option, none, some}
+use native.Mathlib.Omega.{arith}
+use native.Mathlib.Nat.{eq-or-lt-of-le, le-of-suc-le-suc}
+use Rattle.counting.specs.Count.{any, first}
+use Rattle.counting.proofs.Any.{any-make, any-none}
+
+pub first-none : (n : ℕ) (f : ℕ → Bool) → ((i : ℕ) → i < n → f i ≡ false) → first n f ≡ none
+unfolding first
+first-none zero f h = refl
+first-none (suc n) f h = rw (any-none n f (λ i l. h i (omega arith)), h n (omega arith))
+
+pub first-at : (n : ℕ) (f : ℕ → Bool) (j : ℕ) → j < n → f j ≡ true → ((i : ℕ) → i < j → f i ≡ false) → first n f ≡ some j
+unfolding first
+first-at zero f j l e h = absurd (omega arith)
+first-at (suc n) f j l e h =
+    ⊎-elim
+    (λ (q : j ≡ n). rw (any-none n f (λ i li. h i (omega arith)), sym (ap f q) ∙ e) (ap some (sym q)))
+    (λ (q : j < n). rw (any-make n f j q e) (first-at n f j q e h))
+    (eq-or-lt-of-le (le-of-suc-le-suc l))

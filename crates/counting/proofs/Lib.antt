@@ -1,0 +1,5 @@
+pub mod Boolean
+pub mod Any
+pub mod Counted
+pub mod First
+pub mod Each

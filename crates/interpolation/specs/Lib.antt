@@ -1,0 +1,4 @@
+pub mod Interpolation
+pub mod Runs
+pub mod DoubleStep
+pub mod Facts
