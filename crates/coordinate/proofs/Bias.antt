@@ -1,15 +1,15 @@
 -- A coordinate in range is its bias less 16384, and the bias is below 32768; the two forms determine each other.
-use mathlib.Core.Path.{_≡_, refl, sym, ap, _∙_}
-use mathlib.Core.Bool.{Bool, true, false, _||_}
+use mathlib.Core.Path.{_≡_, refl}
+use mathlib.Core.Bool.{false}
 use Prim.Native.Nat.{ℕ, _+_, _-_, _≤_, _<_, _^_}
 use native.Mathlib.Omega.{arith}
-use lib.IntN.{ℤ, pos, negsuc, negℤ, _+ℤ_, _-ℤ_, natAbs}
-use lib.Signed.{ltZ, leZ, mag}
+use lib.IntN.{ℤ, pos, _+ℤ_, _-ℤ_}
+use lib.Signed.{ltZ, mag}
 use mir.Syntax.{w32}
 use mir.Val.{SFits}
 use Rattle.counting.proofs.Boolean.{or-neither, neither-or}
 use Rattle.coordinate.specs.Coordinate.{lowest, highest, outOfRange, biased, unbiased}
-use Rattle.coordinate.proofs.Difference.{Diff, above, below, diff-parts, diff-move, diff-eq, diff-same, diff-pos, diff-plus, diff-add, diff-minus, diff-apart, diff-nlt, diff-mag}
+use Rattle.coordinate.proofs.Difference.{Diff, above, below, diff-parts, diff-move, diff-eq, diff-same, diff-pos, diff-add, diff-minus, diff-apart, diff-nlt, diff-mag}
 
 diff-lowest : Diff lowest 0 16384
 diff-lowest = refl

@@ -1,6 +1,6 @@
 // Coordinates of the frame: their limits, the range test, and their unsigned form, in which code computes with them.
 ghost use mathlib.Core.Path.{_≡_};
-ghost use mathlib.Core.Bool.{true, false};
+ghost use mathlib.Core.Bool.{false};
 ghost use Prim.Native.Nat.{_<_};
 ghost use Rattle.coordinate.specs.Coordinate.{outOfRange, biased, unbiased};
 
@@ -13,6 +13,8 @@ impl Coordinate {
     pub const LOWEST: i32 = -16384;
 
     pub const HIGHEST: i32 = 16383;
+    // How many coordinates there are.
+    pub const COUNT: u32 = 32768;
 
     // Whether `z` is below the lowest coordinate or above the highest.
     pub fn out_of_range(z: i32) -> bool

@@ -1,6 +1,6 @@
 -- `any` holds exactly where there is a witness; so it depends on the test alone, joins, and shrinks to an interval.
 use Prim.Native.Nat.{ℕ, zero, suc, _+_, _-_, _≤_, _<_}
-use mathlib.Core.Path.{_≡_, refl, sym, ap, _∙_, fun-ext}
+use mathlib.Core.Path.{_≡_, refl, sym, ap, _∙_}
 use mathlib.Core.Logic.{⊎-elim}
 use mathlib.Core.Bool.{Bool, true, false, _||_, or-true, or-false, or-assoc}
 use native.Mathlib.Omega.{arith}

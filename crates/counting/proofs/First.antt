@@ -3,7 +3,7 @@ use Prim.Native.Nat.{ℕ, zero, suc, _<_}
 use mathlib.Core.Path.{_≡_, refl, sym, ap, _∙_}
 use mathlib.Core.Logic.{⊎-elim}
 use mathlib.Core.Bool.{Bool, true, false, cond}
-use mathlib.Core.Option.{Option, none, some}
+use mathlib.Core.Option.{none, some}
 use native.Mathlib.Omega.{arith}
 use native.Mathlib.Nat.{eq-or-lt-of-le, le-of-suc-le-suc}
 use Rattle.counting.specs.Count.{any, first}
@@ -22,3 +22,14 @@ first-at (suc n) f j l e h =
     (λ (q : j ≡ n). rw (any-none n f (λ i li. h i (omega arith)), sym (ap f q) ∙ e) (ap some (sym q)))
     (λ (q : j < n). rw (any-make n f j q e) (first-at n f j q e h))
     (eq-or-lt-of-le (le-of-suc-le-suc l))
+
+-- it is below the bound
+pub first-below : (n : ℕ) (f : ℕ → Bool) (k : ℕ) → first n f ≡ some k → k < n
+unfolding first
+first-below zero f k e = absurd (let z : _≡_ {A = ℕ} 0 1 = cc in omega arith)
+first-below (suc n) f k e = go (any n f) (f n) (first-below n f k) e
+  where
+    go : (t u : Bool) → (first n f ≡ some k → k < n) → cond t (first n f) (cond u (some n) none) ≡ some k → k < suc n
+    go true u ih q = omega (arith, ih q)
+    go false true ih q = let h : n ≡ k = cc in omega arith
+    go false false ih q = absurd (let z : _≡_ {A = ℕ} 0 1 = cc in omega arith)

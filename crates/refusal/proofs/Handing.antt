@@ -1,10 +1,15 @@
 -- An operation hands a check's refusal on: its answer is then that refusal, and its buffers stay as they were.
 use Prim.Native.Nat.{ℕ, zero, suc}
+use mathlib.Core.Bool.{Bool}
+use mathlib.Core.List.{List, _++_}
 use mathlib.Core.Path.{_≡_, refl, sym, ap, _∙_}
 use native.Mathlib.Omega.{arith}
-use Rattle.refusal.specs.Refusal.{Answer, given, refused, refusedAt, turnedAway, answer, leaves, numberOf}
+use Rattle.refusal.specs.Refusal.{Answer, given, refused, refusedAt, turnedAway, answer, unlessRefused, numberOf, checked, firstMet}
 use Rattle.refusal.specs.declared.Refusal.{Refusal}
 use Rattle.refusal.specs.declared.Refusal.the-variants.{Ends, Size, Place, RasterLength, ListLength, Rows, RunCount, Run, Input}
+use Rattle.refusal.specs.declared.Check.{Check}
+use Rattle.refusal.specs.declared.Check.the-variants.{Passed, Refused}
+use Rattle.refusal.proofs.Conditions.{append-met}
 
 -- the same answer with another value in the place of a given one
 instead : {A B : Type 0} → B → Answer A → Answer B
@@ -41,14 +46,37 @@ turned-number RunCount e = omega arith
 turned-number (Run place) e = omega arith
 turned-number Input e = omega arith
 
-pub handed-on : {A : Type 0} (r : Refusal) (n : ℕ) (a : A) → _≡_ {A = Answer Unit} (turnedAway r) (answer n tt) → turnedAway r ≡ answer n a
-handed-on r n a e = sym (instead-turned a r) ∙ ap (instead a) e ∙ instead-answer a n
+-- what a check's answer says of the number that it tested
+module _ (check : Check) (n : ℕ) (told : checked check ≡ answer n tt) where
+  pub refused-by : (r : Refusal) → check ≡ Refused r → _≡_ {A = Answer Unit} (turnedAway r) (answer n tt)
+  refused-by r e = sym (ap checked e) ∙ told
 
-pub kept : {A : Type 0} (r : Refusal) (n : ℕ) (work start : A) → _≡_ {A = Answer Unit} (turnedAway r) (answer n tt) → start ≡ leaves n work start
-kept r zero work start e = absurd (turned-number r (ap numberOf e))
-kept r (suc n) work start e = refl
+  pub passed-by : check ≡ Passed → n ≡ 0
+  passed-by e = zero-given n (sym (ap checked e) ∙ told)
+    where
+      zero-given : (n : ℕ) → _≡_ {A = Answer Unit} (given tt) (answer n tt) → n ≡ 0
+      zero-given zero e = refl
+      zero-given (suc n) e = sym (ap numberOf e)
 
--- a check that is passed met no condition
-pub passed : (n : ℕ) → _≡_ {A = Answer Unit} (given tt) (answer n tt) → n ≡ 0
-passed zero e = refl
-passed (suc n) e = sym (ap numberOf e)
+-- an operation that answers the check's refusal: its answer, and a buffer that it does not touch
+module _ {A : Type 0} (r : Refusal) where
+  pub handed-on : (n : ℕ) (a : A) → _≡_ {A = Answer Unit} (turnedAway r) (answer n tt) → turnedAway r ≡ answer n a
+  handed-on n a e = sym (instead-turned a r) ∙ ap (instead a) e ∙ instead-answer a n
+
+  pub kept : (n : ℕ) (work start : A) → _≡_ {A = Answer Unit} (turnedAway r) (answer n tt) → start ≡ unlessRefused n work start
+  kept zero work start e = absurd (turned-number r (ap numberOf e))
+  kept (suc n) work start e = refl
+
+-- the number of a longer list of conditions is then the same
+pub same-number : (r : Refusal) (cs ds : List (ℕ × Bool)) → _≡_ {A = Answer Unit} (turnedAway r) (answer (firstMet cs) tt)
+    → firstMet (cs ++ ds) ≡ firstMet cs
+same-number r cs ds e = go (firstMet cs) refl e
+  where
+    go : (n : ℕ) → firstMet cs ≡ n → _≡_ {A = Answer Unit} (turnedAway r) (answer n tt) → firstMet (cs ++ ds) ≡ firstMet cs
+    go zero q f = absurd (turned-number r (ap numberOf f))
+    go (suc n) q f = append-met n cs ds q ∙ sym q
+
+-- so an operation with further conditions answers it too
+pub handed-more : {A : Type 0} (r : Refusal) (cs ds : List (ℕ × Bool)) (a : A) → _≡_ {A = Answer Unit} (turnedAway r) (answer (firstMet cs) tt)
+    → turnedAway r ≡ answer (firstMet (cs ++ ds)) a
+handed-more r cs ds a e = handed-on r (firstMet cs) a e ∙ ap (λ (n : ℕ). answer n a) (sym (same-number r cs ds e))

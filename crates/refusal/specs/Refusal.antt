@@ -49,7 +49,7 @@ abbrev pub answer : {A : Type 0} → ℕ → A → Answer A
 answer zero a = given a
 answer (suc n) a = refused (suc n)
 
--- what an operation leaves in a lent buffer, by that number: its work where no condition is met, else the buffer as it was
-abbrev pub leaves : {A : Type 0} → ℕ → A → A → A
-leaves zero work start = work
-leaves (suc n) work start = start
+-- by that number: what an operation does where no condition is met, else the other, as a lent buffer left as it was
+abbrev pub unlessRefused : {A : Type 0} → ℕ → A → A → A
+unlessRefused zero work other = work
+unlessRefused (suc n) work other = other

@@ -1,5 +1,4 @@
 -- The difference from the lowest coordinate is the bias, which is small.
-use mathlib.Core.Path.{_≡_, refl}
 use native.Mathlib.Omega.{arith}
 use lib.IntN.{pos}
 use mir.Syntax.{w32}

@@ -1,5 +1,4 @@
 -- The code's two tests are the definition's.
-use mathlib.Core.Path.{_≡_, sym}
 use mir.Syntax.{w32}
 use mir.ValLaws.{toZ-ofZ}
 use Rattle.coordinate.specs.Coordinate.{outOfRange}

@@ -1,0 +1,5 @@
+pub mod Laws
+pub mod RunLaws
+pub mod DoubleStep
+pub mod RunLengths
+pub mod Facts

@@ -1,0 +1,27 @@
+-- The lettered lines hold by computation.
+use mathlib.Core.Path.{refl}
+use Rattle.counting.specs.Count.{any, count, each}
+use Rattle.interpolation.specs.Interpolation.{m}
+use Rattle.interpolation.specs.Runs.{runFirst, runPixels}
+use Rattle.raster.specs.Raster.{worth, bit, byte, over, bitHas, plus, inWindow}
+use Rattle.line.specs.Line.{long, short, axis, offset, distance, pixelAt, pixel, onLine}
+use Rattle.line.specs.Runs.{longOf, acrossOf, run, runs}
+use Rattle.line.specs.Drawing.{lineCount, lineRaster}
+use Rattle.line.specs.Known.{Lettered, codes}
+
+pub lettered : Lettered
+unfolding any count each m runFirst runPixels worth bit byte over bitHas plus inWindow long short axis offset distance pixelAt pixel onLine longOf acrossOf run runs lineCount lineRaster codes
+lettered =
+    record {
+      A = (refl, refl);
+      B = refl;
+      C = refl;
+      D = refl;
+      E = refl;
+      F = refl;
+      G = (refl, refl);
+      H = refl;
+      I = refl;
+      J = (refl, refl);
+      K = refl;
+    }

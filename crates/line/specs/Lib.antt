@@ -1,0 +1,4 @@
+pub mod Line
+pub mod Runs
+pub mod Drawing
+pub mod Known

@@ -1,0 +1,11 @@
+pub mod Frames
+pub mod Byte
+pub mod Over
+pub mod Plus
+pub mod Band
+pub mod BitLaws
+pub mod Filling
+pub mod Rows
+pub mod Passing
+pub mod Searching
+pub mod Placing

@@ -1,0 +1,6 @@
+pub mod Raster
+pub mod Window
+pub mod Row
+pub mod Band
+pub mod Bits
+pub mod Search
