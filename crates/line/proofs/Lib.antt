@@ -1,1 +1,10 @@
 pub mod Known
+pub mod Pixels
+pub mod Intervals
+pub mod Turns
+pub mod Stepping
+pub mod Marking
+pub mod Pairing
+pub mod DoubleStep
+pub mod Whole
+pub mod Drawn

@@ -7,16 +7,16 @@ use native.Mathlib.Omega.{arith}
 use native.Mathlib.Nat.{mul-le-mul, mul-le-mul-right}
 use lib.IntN.{ℤ, pos, _+ℤ_}
 use lib.Signed.{ltZ}
-use lib.Dec.{ltb}
+use lib.Dec.{ltb, lit≤}
 use borrow.Author.Tests.{ltb-true, ltb-false, lt-ltb, eqb-true, le-ltb, not-false}
 use Rattle.counting.proofs.Boolean.{bool-iff, or-neither, neither-or}
 use Rattle.coordinate.specs.Coordinate.{highest, outOfRange, biased}
 use Rattle.coordinate.proofs.Difference.{Diff, diff-plus, diff-less, diff-lt, diff-nlt}
 use Rattle.coordinate.proofs.Bias.{diff-biased}
 use Rattle.refusal.specs.Refusal.{firstMet}
-use Rattle.refusal.proofs.Conditions.{none-met}
+use Rattle.refusal.proofs.Conditions.{none-met, append-none}
 use Rattle.raster.specs.Raster.{rowBytes}
-use Rattle.raster.specs.Window.{sideOut, sizeOut, last, sidePlaceOut, placeOut, lengthOff, frameConditions}
+use Rattle.raster.specs.Window.{sideOut, sizeOut, last, sidePlaceOut, placeOut, lengthOff, windowConditions, frameConditions}
 use Rattle.raster.specs.declared.window.Window.{Window}
 
 -- the sizes of a window that doesn't meet 2
@@ -93,6 +93,10 @@ frame w n e =
       place = placed w (q .0);
       shape = record { wide = z .width-min; length-is = eqb-true n _ (not-false _ (r .0)) };
     }
+
+-- a frame's window is within its limits
+pub window-in : (w : Window) (n : ℕ) → firstMet (frameConditions w n) ≡ 0 → firstMet (windowConditions w) ≡ 0
+window-in w n e = append-none (windowConditions w) ((4, lengthOff w n) ∷ []) (lit≤ tt, (lit≤ tt, tt)) e .0
 
 -- the bytes before row r, and of row r, are in the raster
 pub row-within : (w : Window) (n r : ℕ) → Shaped w n → r < w .height → r * rowBytes (w .width) + rowBytes (w .width) ≤ n

@@ -6,6 +6,7 @@ pub mod Band
 pub mod BitLaws
 pub mod Filling
 pub mod Rows
+pub mod Inside
 pub mod Passing
 pub mod Searching
 pub mod Placing

@@ -3,4 +3,5 @@ pub mod Window
 pub mod Row
 pub mod Band
 pub mod Bits
+pub mod Drawn
 pub mod Search

@@ -1,0 +1,107 @@
+// The second drawer: from document 01's definition of m(i), one division a step, every pixel tested against the window.
+// Coordinates are counted from the lowest. It shares no code with the drawers that it is compared with.
+ghost use Prim.Native.Nat.{_≤_, _<_};
+
+fn apart(a: u32, b: u32) -> u32
+    requires { ⌜ (a < 32768) × (b < 32768) ⌝ }
+    ensures { λ r. ⌜ r < 32768 ⌝ }
+{
+    if a < b { b - a } else { a - b }
+}
+
+// m(i) of a line `l` by `s`.
+fn m(l: u32, s: u32, i: u32) -> u32
+    requires { ⌜ (l < 32768) × (s < 32768) × (i < 32768) ⌝ }
+    ensures { λ r. ⌜ r < 2147483648 ⌝ }
+{
+    if l == 0 {
+        return 0;
+    }
+    (2 * i * s + l) / (2 * l)
+}
+
+// The coordinate `n` away from `a`, towards `b`.
+fn toward(a: u32, b: u32, n: u32) -> u32
+    requires { ⌜ (a < 32768) × (n < 2147483648) ⌝ }
+{
+    if a <= b {
+        return a + n;
+    }
+    if n <= a { a - n } else { 0 }
+}
+
+// Marks the pixel in a column and a row of the raster, counted from 0.
+fn mark(column: u32, row: u32, bytes: usize, raster: &mut [u8])
+    requires { ⌜ (row ≤ 16) × (bytes ≤ 16) ⌝ }
+{
+    let at = row as usize * bytes + column as usize / 8;
+    if at < raster.len() {
+        raster[at] = raster[at] | (128u8 >> (column % 8));
+    }
+}
+
+// Marks the pixel of a column and a row of the frame and answers 1, or answers 0 where it is not in the window.
+fn mark_in(x: u32, y: u32, left: u32, top: u32, width: u32, height: u32, raster: &mut [u8]) -> u64
+    requires { ⌜ (left < 32768) × (top < 32768) × (width ≤ 16) × (height ≤ 16) ⌝ }
+    ensures { λ r. ⌜ r ≤ 1 ⌝ }
+{
+    if x < left || left + width <= x || y < top || top + height <= y {
+        return 0;
+    }
+    mark(x - left, y - top, (width as usize + 7) / 8, raster);
+    1
+}
+
+// The first of two numbers, or the second.
+fn pick(first: bool, a: u32, b: u32) -> u32
+    requires { ⌜ (a < 2147483648) × (b < 2147483648) ⌝ }
+    ensures { λ r. ⌜ r < 2147483648 ⌝ }
+{
+    if first { a } else { b }
+}
+
+fn larger(a: u32, b: u32) -> u32
+    requires { ⌜ (a < 32768) × (b < 32768) ⌝ }
+    ensures { λ r. ⌜ r < 32768 ⌝ }
+{
+    if a < b { b } else { a }
+}
+
+fn smaller(a: u32, b: u32) -> u32
+    requires { ⌜ (a < 32768) × (b < 32768) ⌝ }
+    ensures { λ r. ⌜ r < 32768 ⌝ }
+{
+    if a < b { a } else { b }
+}
+
+// Marks the line's pixels in the window and answers how many they are.
+pub fn draw(
+    x0: u32,
+    y0: u32,
+    x1: u32,
+    y1: u32,
+    left: u32,
+    top: u32,
+    width: u32,
+    height: u32,
+    raster: &mut [u8],
+) -> u64
+    requires { ⌜ (x0 < 32768) × (y0 < 32768) × (x1 < 32768) × (y1 < 32768) ⌝ }
+    requires { ⌜ (left < 32768) × (top < 32768) × (width ≤ 16) × (height ≤ 16) ⌝ }
+{
+    let dx = apart(x0, x1);
+    let dy = apart(y0, y1);
+    let l = larger(dx, dy);
+    let s = smaller(dx, dy);
+    let steep = dx < dy;
+    let mut count: u64 = 0;
+    let mut i: u32 = 0;
+    while i <= l {
+        let d = m(l, s, i);
+        let x = toward(x0, x1, pick(steep, d, i));
+        let y = toward(y0, y1, pick(steep, i, d));
+        count += mark_in(x, y, left, top, width, height, raster);
+        i += 1;
+    }
+    count
+}
