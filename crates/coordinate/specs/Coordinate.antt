@@ -3,6 +3,8 @@ use Prim.Native.Nat.{ℕ}
 use mathlib.Core.Bool.{Bool, _||_, _&&_}
 use lib.IntN.{ℤ, pos, negℤ, natAbs, _+ℤ_, _-ℤ_}
 use lib.Signed.{ltZ, leZ}
+use Rattle.coordinate.specs.declared.Axis.{Axis}
+use Rattle.coordinate.specs.declared.Axis.the-variants.{X, Y}
 
 -- a coordinate is from −16384 to 16383
 abbrev pub lowest : ℤ
@@ -28,3 +30,8 @@ biased z = apart lowest z
 
 unfoldable pub unbiased : ℕ → ℤ
 unbiased n = pos n +ℤ lowest
+
+-- the first of two where the axis is x, else the second
+abbrev pub along : {A : Type 0} → Axis → A → A → A
+along X a b = a
+along Y a b = b

@@ -45,3 +45,9 @@ pub struct Pixel {
     pub column: i32,
     pub row: i32,
 }
+
+// A direction of the frame: along its columns' numbers, x, or along its rows', y.
+pub enum Axis {
+    X,
+    Y,
+}

@@ -3,3 +3,4 @@ pub mod Any
 pub mod Counted
 pub mod First
 pub mod Each
+pub mod Summed

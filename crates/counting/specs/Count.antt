@@ -19,6 +19,11 @@ unfoldable pub count : ℕ → (ℕ → Bool) → ℕ
 count zero f = 0
 count (suc n) f = count n f + one (f n)
 
+-- f 0 + .. + f (n − 1)
+unfoldable pub sum : ℕ → (ℕ → ℕ) → ℕ
+sum zero f = 0
+sum (suc n) f = sum n f + f n
+
 -- the first number below n at which f holds, if there is one
 unfoldable pub first : ℕ → (ℕ → Bool) → Option ℕ
 first zero f = none

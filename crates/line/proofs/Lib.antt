@@ -8,3 +8,6 @@ pub mod Pairing
 pub mod DoubleStep
 pub mod Whole
 pub mod Drawn
+pub mod Listing
+pub mod RunPixels
+pub mod RunFacts

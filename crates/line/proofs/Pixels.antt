@@ -10,7 +10,7 @@ use lib.Signed.{ltZ, leZ}
 use lib.Dec.{ltb}
 use borrow.Author.Tests.{ltb-true, ltb-false}
 use Rattle.counting.proofs.Boolean.{clash, or-neither, and-both, both-and}
-use Rattle.coordinate.specs.Coordinate.{outOfRange, apart, biased}
+use Rattle.coordinate.specs.Coordinate.{outOfRange, apart, biased, along}
 use Rattle.coordinate.specs.declared.Pixel.{Pixel}
 use Rattle.coordinate.proofs.Difference.{Diff, diff-move, diff-plus, diff-less, diff-apart, diff-lt, diff-nlt, diff-le}
 use Rattle.coordinate.proofs.Bias.{diff-biased, biased-lt}
@@ -23,12 +23,12 @@ use Rattle.raster.specs.Bits.{bitOf}
 use Rattle.raster.specs.Window.{sizeOut, placeOut, windowConditions}
 use Rattle.raster.specs.declared.window.Window.{Window}
 use Rattle.raster.proofs.Frames.{Sized, sized, Placed, placed}
-use Rattle.line.specs.Line.{long, short, axis, offset, distance, toward, along, pixelAt, pixel, endsOut}
+use Rattle.line.specs.Line.{long, short, axis, offset, distance, toward, pixelAt, pixel, endsOut}
 use Rattle.line.specs.Walk.{Traced, seen, stepBit, stepRest}
 use Rattle.line.specs.Visible.{away}
 use Rattle.line.specs.declared.ends.Ends.{Ends}
-use Rattle.line.specs.declared.ends.Axis.{Axis}
-use Rattle.line.specs.declared.ends.Axis.the-variants.{X, Y}
+use Rattle.coordinate.specs.declared.Axis.{Axis}
+use Rattle.coordinate.specs.declared.Axis.the-variants.{X, Y}
 use Rattle.line.specs.declared.trace.Line.{Line}
 
 -- ---- ends within the limits
@@ -82,7 +82,7 @@ pub record Reached (up : Bool) (a n : ℕ) (z : ℤ) : Type 0 where
   pub end : away up a n < 32768
   pub is : Diff z (away up a n) 16384
 
-toward-reached : (a b : ℤ) (n : ℕ) → outOfRange a ≡ false → outOfRange b ≡ false → n ≤ apart a b
+pub toward-reached : (a b : ℤ) (n : ℕ) → outOfRange a ≡ false → outOfRange b ≡ false → n ≤ apart a b
     → Reached (not (ltZ b a)) (biased a) n (toward a b n)
 toward-reached a b n p q r = go (ltZ b a) refl
   where

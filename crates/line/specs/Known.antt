@@ -8,10 +8,11 @@ use Rattle.counting.specs.Count.{each}
 use Rattle.coordinate.specs.declared.Pixel.{Pixel}
 use Rattle.raster.specs.declared.window.Window.{Window}
 use Rattle.line.specs.Line.{long, axis, distance, pixel}
-use Rattle.line.specs.Runs.{Run, runs}
+use Rattle.runs.specs.Run.{Run}
+use Rattle.line.specs.Runs.{runs}
 use Rattle.line.specs.Drawing.{lineCount, lineRaster}
 use Rattle.line.specs.declared.ends.Ends.{Ends}
-use Rattle.line.specs.declared.ends.Axis.the-variants.{X, Y}
+use Rattle.coordinate.specs.declared.Axis.the-variants.{X, Y}
 
 -- from column a and row b to column c and row d
 abbrev pub from : ℤ → ℤ → ℤ → ℤ → Ends

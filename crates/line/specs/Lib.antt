@@ -1,6 +1,9 @@
 pub mod Line
 pub mod Runs
 pub mod Drawing
+pub mod Listing
+pub mod Lister
+pub mod RunFacts
 pub mod Walk
 pub mod Visible
 pub mod Pairs

@@ -6,12 +6,12 @@ use lib.IntN.{ℤ, pos, _+ℤ_, _-ℤ_}
 use lib.Signed.{ltZ}
 use lib.Dec.{ltb}
 use Rattle.counting.specs.Count.{any}
-use Rattle.coordinate.specs.Coordinate.{outOfRange, apart, same}
+use Rattle.coordinate.specs.Coordinate.{outOfRange, apart, same, along}
 use Rattle.coordinate.specs.declared.Pixel.{Pixel}
 use Rattle.interpolation.specs.Interpolation.{m}
 use Rattle.line.specs.declared.ends.Ends.{Ends}
-use Rattle.line.specs.declared.ends.Axis.{Axis}
-use Rattle.line.specs.declared.ends.Axis.the-variants.{X, Y}
+use Rattle.coordinate.specs.declared.Axis.{Axis}
+use Rattle.coordinate.specs.declared.Axis.the-variants.{X, Y}
 
 -- L, the larger of the two absolute differences of the ends, and S, the smaller
 unfoldable pub long : Ends → ℕ
@@ -37,11 +37,6 @@ offset e = long e
 unfoldable pub distance : Ends → ℕ → ℕ
 unfolding long short offset
 distance e i = m (offset e) (long e) (short e) i
-
--- the first of two where the axis is x, else the second
-abbrev pub along : {A : Type 0} → Axis → A → A → A
-along X a b = a
-along Y a b = b
 
 -- the pixel i away from the first end along the long axis and k away across it, both towards the second end
 unfoldable pub pixelAt : Ends → ℕ → ℕ → Pixel

@@ -7,14 +7,10 @@ use lib.Signed.{ltZ}
 use Rattle.counting.specs.Count.{each}
 use Rattle.coordinate.specs.declared.Pixel.{Pixel}
 use Rattle.interpolation.specs.Runs.{runFirst, runPixels}
-use Rattle.line.specs.Line.{long, short, offset, axis, along, pixelAt}
+use Rattle.coordinate.specs.Coordinate.{along}
+use Rattle.runs.specs.Run.{Run}
+use Rattle.line.specs.Line.{long, short, offset, axis, pixelAt}
 use Rattle.line.specs.declared.ends.Ends.{Ends}
-
--- a run of a run list: its short coordinate, its lowest long coordinate, its number of pixels
-pub record Run : Type 0 where
-  pub across : ℤ
-  pub lowest : ℤ
-  pub pixels : ℕ
 
 -- a pixel's coordinate along the long axis, and across it
 unfoldable pub longOf : Ends → Pixel → ℤ
@@ -28,12 +24,19 @@ acrossOf e p = along (axis e) (p .row) (p .column)
 abbrev pub lower : ℤ → ℤ → ℤ
 lower a b = cond (ltZ b a) b a
 
+-- the first step of run k, and its number of pixels
+abbrev pub firstStep : Ends → ℕ → ℕ
+firstStep e k = runFirst (offset e) (long e) (short e) k
+
+abbrev pub pixelsOf : Ends → ℕ → ℕ
+pixelsOf e k = runPixels (offset e) (long e) (short e) k
+
 -- run k: the pixels whose short coordinate is k away from the first end
 unfoldable pub run : Ends → ℕ → Run
 unfolding long short offset longOf acrossOf pixelAt
 run e k =
-    let first = runFirst (offset e) (long e) (short e) k in
-    let n = runPixels (offset e) (long e) (short e) k in
+    let first = firstStep e k in
+    let n = pixelsOf e k in
     record {
       across = acrossOf e (pixelAt e first k);
       lowest = lower (longOf e (pixelAt e first k)) (longOf e (pixelAt e (first + n - 1) k));

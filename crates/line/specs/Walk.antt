@@ -14,7 +14,7 @@ use Rattle.raster.specs.Bits.{bitOf, point}
 use Rattle.raster.specs.declared.window.Window.{Window}
 use Rattle.line.specs.Line.{long, short, offset, axis, distance, pixel, endsOut}
 use Rattle.line.specs.declared.ends.Ends.{Ends}
-use Rattle.line.specs.declared.ends.Axis.the-variants.{X, Y}
+use Rattle.coordinate.specs.declared.Axis.the-variants.{X, Y}
 use Rattle.line.specs.declared.trace.Line.{Line}
 use Rattle.line.specs.declared.visible.Steps.{Steps}
 use Rattle.line.specs.declared.walk.Spot.{Spot}

@@ -16,12 +16,6 @@ pub struct Ends {
     pub y1: i32,
 }
 
-// The direction of the larger difference of the ends: columns or rows.
-pub enum Axis {
-    X,
-    Y,
-}
-
 // Whether either coordinate of a pixel is out of range.
 fn pixel_out(column: i32, row: i32) -> bool
     ensures { λ r. ⌜ r ≡ (outOfRange column || outOfRange row) ⌝ }
