@@ -1,0 +1,5 @@
+pub mod Bad
+pub mod Cut
+pub mod Column
+pub mod Painting
+pub mod Outcome
