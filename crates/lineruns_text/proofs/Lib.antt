@@ -1,0 +1,13 @@
+pub mod Numbers
+pub mod Splitting
+pub mod Fours
+pub mod Steps
+pub mod Placing
+pub mod Decimals
+pub mod Figures
+pub mod Signs
+pub mod Lines
+pub mod Returning
+pub mod Known
+pub mod RunLines
+pub mod Answering
