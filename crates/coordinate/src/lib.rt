@@ -1,7 +1,7 @@
 // Coordinates of the frame: their limits, the range test, and their unsigned form, in which code computes with them.
 ghost use mathlib.Core.Path.{_≡_};
 ghost use mathlib.Core.Bool.{false};
-ghost use Prim.Native.Nat.{_<_};
+ghost use Prim.Native.Nat.{_-_, _<_};
 ghost use Rattle.coordinate.specs.Coordinate.{outOfRange, biased, unbiased};
 
 // A column or a row of the frame.
@@ -38,6 +38,13 @@ impl Coordinate {
     {
         n as i32 + Self::LOWEST
     }
+}
+
+// How much `a` is above `b`, or 0.
+pub fn less(a: u32, b: u32) -> u32
+    ensures { λ r. ⌜ r ≡ a - b ⌝ }
+{
+    if b <= a { a - b } else { 0 }
 }
 
 // A pixel of the frame by its column and row. Columns grow rightwards, rows downwards.

@@ -2,11 +2,12 @@
 use Prim.Native.Nat.{ℕ, zero, suc, _<_}
 use mathlib.Core.Path.{_≡_, refl, sym, ap, _∙_}
 use mathlib.Core.Logic.{⊎-elim}
-use mathlib.Core.Bool.{Bool, true, false, cond}
+use mathlib.Core.Bool.{Bool, true, false, cond, _||_}
 use mathlib.Core.Option.{none, some}
 use native.Mathlib.Omega.{arith}
 use native.Mathlib.Nat.{eq-or-lt-of-le, le-of-suc-le-suc}
 use Rattle.counting.specs.Count.{any, first}
+use Rattle.counting.proofs.Boolean.{clash}
 use Rattle.counting.proofs.Any.{any-make, any-none}
 
 pub first-none : (n : ℕ) (f : ℕ → Bool) → ((i : ℕ) → i < n → f i ≡ false) → first n f ≡ none
@@ -33,3 +34,14 @@ first-below (suc n) f k e = go (any n f) (f n) (first-below n f k) e
     go true u ih q = omega (arith, ih q)
     go false true ih q = let h : n ≡ k = cc in omega arith
     go false false ih q = absurd (let z : _≡_ {A = ℕ} 0 1 = cc in omega arith)
+
+-- where no first is found there is none
+pub none-any : (n : ℕ) (f : ℕ → Bool) → first n f ≡ none → any n f ≡ false
+unfolding first any
+none-any zero f e = refl
+none-any (suc n) f e = go (any n f) (f n) refl (none-any n f) e
+  where
+    go : (t u : Bool) → any n f ≡ t → (first n f ≡ none → any n f ≡ false) → cond t (first n f) (cond u (some n) none) ≡ none → (t || u) ≡ false
+    go true u q ih r = absurd (clash (any n f) (ih r) q)
+    go false true q ih r = absurd (let z : _≡_ {A = ℕ} 0 1 = cc in omega arith)
+    go false false q ih r = refl

@@ -8,7 +8,8 @@ use native.Mathlib.Nat.{add-zero, zero-add}
 use native.Mathlib.Numerals.{add-one}
 use lib.IntN.{ℤ, pos, _+ℤ_}
 use lib.Signed.{ltZ}
-use lib.ListN.{length, getD, List·getD-append}
+use lib.ListN.{length, getD, drop, length-append, List·getD-append}
+use lib.Dec.{ltb}
 use borrow.Author.Tests.{le-ltb}
 use Rattle.counting.specs.Count.{any, count, sum, each}
 use Rattle.counting.proofs.Boolean.{bool-iff, neither-or}
@@ -19,15 +20,19 @@ use Rattle.counting.proofs.Each.{each-length}
 use Rattle.counting.proofs.Summed.{sum-cong, count-sum}
 use Rattle.coordinate.specs.Coordinate.{outOfRange}
 use Rattle.coordinate.specs.declared.Pixel.{Pixel}
+use Rattle.refusal.specs.Refusal.{given, firstMet}
+use Rattle.refusal.proofs.Conditions.{unmet, none-met, append-passed}
 use Rattle.raster.specs.Raster.{plus, inWindow}
+use Rattle.raster.specs.Window.{frameConditions}
 use Rattle.raster.specs.Bits.{point}
 use Rattle.raster.specs.declared.window.Window.{Window}
 use Rattle.runs.specs.Run.{Run, numbers, runList, runPixel, inRun, runCount}
-use Rattle.runs.specs.Painting.{storedAcross, storedLowest, storedPixels, natural, runAt, runBad, firstBad, inRuns, paintCount}
+use Rattle.runs.specs.Painting.{storedAcross, storedLowest, storedPixels, natural, runAt, runBad, firstBad, inRuns, paintCount, paintConditions}
 use Rattle.line.specs.Line.{long, short, axis, distance, pixel, onLine, endsOut}
 use Rattle.line.specs.Runs.{firstStep, pixelsOf, run, runs}
-use Rattle.line.specs.Drawing.{lineCount, lineRaster}
-use Rattle.line.specs.RunFacts.{falls, stepOf, Stepped, RunsAreLine, RunsDrawLine, listThen, ReadBack, NoneBad, Painted}
+use Rattle.line.specs.Listing.{lineList}
+use Rattle.line.specs.Drawing.{lineCount, lineRaster, lineConditions}
+use Rattle.line.specs.RunFacts.{falls, stepOf, Stepped, RunsAreLine, RunsDrawLine, listThen, ReadBack, NoneBad, Painted, ListedAndPainted}
 use Rattle.line.specs.declared.ends.Ends.{Ends}
 use Rattle.line.proofs.Pixels.{distance-max}
 use Rattle.line.proofs.RunPixels.{count-turned, lengths, stepped, place, step-once, run-long-in, run-across-in}
@@ -203,4 +208,36 @@ module _ (e : Ends) (rest : List ℤ) where
         marks = painted-marks;
         counts = painted-count;
         raster = λ w s. ap (plus w s) (fun-ext (λ x. fun-ext (λ y. painted-marks x y)));
+      }
+
+-- ---- lister and painter
+
+module _ (e : Ends) (list : List ℤ) (w : Window) (s : List ℕ) (h : firstMet (lineConditions e w (length s)) ≡ 0) where
+  rest : List ℤ
+  rest = drop (3 * (short e + 1)) list
+
+  ends-in : endsOut e ≡ false
+  ends-in = none-met 0 (endsOut e) (frameConditions w (length s)) h .0
+
+  frame-met : firstMet (frameConditions w (length s)) ≡ 0
+  frame-met = none-met 0 (endsOut e) (frameConditions w (length s)) h .1
+
+  long-enough : 3 * (short e + 1) ≤ length (lineList e list)
+  unfolding lineList rest
+  long-enough = omega (arith, read-back e rest .length-is, length-append (runList (runs e)) rest)
+
+  paint-met : firstMet (paintConditions w (length s) (lineList e list) (short e + 1)) ≡ 0
+  unfolding firstMet
+  paint-met =
+      let seven : Bool = ltb (length (lineList e list)) (3 * (short e + 1)) in
+      append-passed (frameConditions w (length s)) ((7, seven) ∷ []) (omega arith, (omega arith, (omega arith, tt))) frame-met
+      ∙ unmet 7 seven [] (le-ltb (length (lineList e list)) (3 * (short e + 1)) long-enough)
+
+  -- painting what the lister left is drawing the line, in the painter's whole answer
+  pub listed-and-painted : ListedAndPainted e list w s
+  unfolding lineList rest
+  listed-and-painted =
+      record {
+        answer-is = rw (paint-met, none-bad e rest ends-in .first-bad) (ap given (paints-line e rest .counts w));
+        raster-is = rw (paint-met, none-bad e rest ends-in .first-bad) (paints-line e rest .raster w s);
       }

@@ -2,6 +2,7 @@
 // interval, and both its ends come from closed forms.
 use crate::trace::Line;
 use coordinate::Coordinate;
+use coordinate::less;
 use interpolation::first_step;
 use raster::window::Window;
 ghost use mathlib.Core.Path.{_≡_};
@@ -16,13 +17,6 @@ ghost use Rattle.line.specs.Visible.{Side, Both};
 pub struct Steps {
     pub from: u32,
     pub end: u32,
-}
-
-// How much `a` is above `b`, or 0.
-fn less(a: u32, b: u32) -> u32
-    ensures { λ r. ⌜ r ≡ a - b ⌝ }
-{
-    if b <= a { a - b } else { 0 }
 }
 
 fn larger(a: u32, b: u32) -> u32

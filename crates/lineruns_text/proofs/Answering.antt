@@ -31,7 +31,7 @@ use Rattle.line.specs.declared.list.Listing.{Listing}
 use Rattle.line.specs.declared.list.Listed.{Listed}
 use Rattle.line.specs.declared.list.Listed.the-variants.{Runs, Refused}
 use Rattle.line.proofs.RunFacts.{read-back, none-bad}
-use Rattle.lineruns_text.specs.Writing.{axisText, axisLine, refusedLine, runLines, lineConditions, told, answerTo, printed}
+use Rattle.lineruns_text.specs.Writing.{axisText, axisLine, refusedLine, runLines, printConditions, told, answerTo, printed}
 use Rattle.lineruns_text.specs.Reading.{lineOf}
 use Rattle.lineruns_text.specs.Written.{written, Wrote}
 use Rattle.lineruns_text.proofs.Lines.{axis-line-length, refused-line-length}
@@ -120,12 +120,12 @@ module _ (e : Ends) (space list : List ℤ) (size : length space ≡ 15000) (r :
   abbrev met : ℕ
   met = firstMet (listConditions e (length space))
 
-  met-same : met ≡ firstMet (lineConditions e)
+  met-same : met ≡ firstMet (printConditions e)
   met-same = rw size (ap (λ (b : Bool). firstMet ((1, endsOut e) ∷ (5, b) ∷ [])) (room-same (short e + 1)))
 
-  pub told-refused : (q : Refusal) → r ≡ Refused q → told (firstMet (lineConditions e)) e ≡ refusedLine (number q)
+  pub told-refused : (q : Refusal) → r ≡ Refused q → told (firstMet (printConditions e)) e ≡ refusedLine (number q)
   told-refused q is =
-      told-number e (firstMet (lineConditions e)) q
+      told-number e (firstMet (printConditions e)) q
       (sym (number-is (Axis × ℕ) q) ∙ ap numberOf (sym (ap listed is) ∙ answered) ∙ number-answer met (axis e, short e + 1) ∙ met-same)
 
   module _ (l : Listing) (is : r ≡ Runs l) where
@@ -138,7 +138,7 @@ module _ (e : Ends) (space list : List ℤ) (size : length space ≡ 15000) (r :
     pub runs-is : l .runs ≡ short e + 1
     runs-is = ap (λ (p : Axis × ℕ). p .1) (by .1)
 
-    none-is : firstMet (lineConditions e) ≡ 0
+    none-is : firstMet (printConditions e) ≡ 0
     none-is = sym met-same ∙ by .0
 
     within : endsOut e ≡ false
@@ -165,7 +165,7 @@ module _ (e : Ends) (space list : List ℤ) (size : length space ≡ 15000) (r :
     same-runs =
         rw (runs-is, list-is) (each-cong (short e + 1) (runAt (listThen e rest)) (run e) (read-back e rest .run-is))
 
-    pub told-list : axisText (along (l .axis) 120 121) (l .runs) ++ runLines (each (l .runs) (runAt list)) ≡ told (firstMet (lineConditions e)) e
+    pub told-list : axisText (along (l .axis) 120 121) (l .runs) ++ runLines (each (l .runs) (runAt list)) ≡ told (firstMet (printConditions e)) e
     unfolding axisLine
     told-list = rw (none-is, same-runs, axis-is, runs-is)
 
@@ -175,7 +175,7 @@ pub printed-bad : (input : List ℕ) → lineOf input ≡ none → printed input
 unfolding printed
 printed-bad input q = ap answerTo q
 
-pub printed-line : (input : List ℕ) (e : Ends) → lineOf input ≡ some e → printed input ≡ told (firstMet (lineConditions e)) e
+pub printed-line : (input : List ℕ) (e : Ends) → lineOf input ≡ some e → printed input ≡ told (firstMet (printConditions e)) e
 unfolding printed
 printed-line input e q = ap answerTo q
 
@@ -209,7 +209,7 @@ module _ (e : Ends) (few : short e + 1 ≤ 5000) where
       let b = runs-part p in
       let both = length-append (axisLine e) (runLines (runs e)) in omega arith
 
-told-length : (e : Ends) (n : ℕ) → firstMet (lineConditions e) ≡ n → length (told n e) ≤ 110000
+told-length : (e : Ends) (n : ℕ) → firstMet (printConditions e) ≡ n → length (told n e) ≤ 110000
 told-length e zero q =
     let rest = none-met 0 (endsOut e) _ q in
     list-length e (ltb-false 5000 (short e + 1) (none-met 4 _ [] (rest .1) .0)) (rest .0)
@@ -223,7 +223,7 @@ printed-length input = go (lineOf input)
   where
     go : (o : Option Ends) → length (answerTo o) ≤ 110000
     go none = let l = refused-line-length 9 (omega arith) in omega arith
-    go (some e) = told-length e (firstMet (lineConditions e)) refl
+    go (some e) = told-length e (firstMet (printConditions e)) refl
 
 -- what was written can be taken from the output
 pub answer-fits : (input entry exit : List ℕ) (end : ℕ) → end ≡ cond (ltb (length entry) 110000) 0 (length (printed input))

@@ -1,4 +1,4 @@
--- What the helpers of src/read.rt answer, case by case. Assumes nothing.
+-- What the private functions of src/read.rt answer, case by case. Assumes nothing.
 use Prim.Native.Nat.{ℕ, _+_, _≤_, _<_}
 use mathlib.Core.Path.{_≡_}
 use mathlib.Core.Logic.{_⊎_}

@@ -29,18 +29,21 @@ unfolding decimal
 signed (pos n) = decimal n
 signed (negsuc n) = 45 ∷ decimal (suc n)
 
--- `axis x runs 4`, `refused 9`, each ended by a newline
+-- 'axis ' and a letter
 abbrev pub axisName : ℕ → List ℕ
 axisName letter = 97 ∷ 120 ∷ 105 ∷ 115 ∷ 32 ∷ letter ∷ []
 
+-- 'axis x runs 4' and a newline, of a letter and a number
 unfoldable pub axisText : ℕ → ℕ → List ℕ
 unfolding decimal
 axisText letter n = axisName letter ++ (32 ∷ 114 ∷ 117 ∷ 110 ∷ 115 ∷ 32 ∷ (decimal n ++ (10 ∷ [])))
 
+-- the letter is 'x' or 'y'
 unfoldable pub axisLine : Ends → List ℕ
 unfolding axisText
 axisLine e = axisText (along (axis e) 120 121) (short e + 1)
 
+-- 'refused 9' and a newline
 unfoldable pub refusedLine : ℕ → List ℕ
 unfolding decimal
 refusedLine n = 114 ∷ 101 ∷ 102 ∷ 117 ∷ 115 ∷ 101 ∷ 100 ∷ 32 ∷ (decimal n ++ (10 ∷ []))
@@ -56,8 +59,8 @@ runLines [] = []
 runLines (r ∷ rs) = runLine r ++ runLines rs
 
 -- 1, then 5: S + 1 is above 5000
-abbrev pub lineConditions : Ends → List (ℕ × Bool)
-lineConditions e = endsConditions e ++ ((5, ltb 5000 (short e + 1)) ∷ [])
+abbrev pub printConditions : Ends → List (ℕ × Bool)
+printConditions e = endsConditions e ++ ((5, ltb 5000 (short e + 1)) ∷ [])
 
 abbrev pub told : ℕ → Ends → List ℕ
 told zero e = axisLine e ++ runLines (runs e)
@@ -66,7 +69,7 @@ told (suc n) e = refusedLine (suc n)
 -- all that is printed for an input: 9 is tested first
 abbrev pub answerTo : Option Ends → List ℕ
 answerTo none = refusedLine 9
-answerTo (some e) = told (firstMet (lineConditions e)) e
+answerTo (some e) = told (firstMet (printConditions e)) e
 
 unfoldable pub printed : List ℕ → List ℕ
 unfolding lineOf axisLine refusedLine runLines

@@ -19,7 +19,7 @@ ghost use Rattle.counting.specs.Count.{each};
 ghost use Rattle.coordinate.specs.Coordinate.{along};
 ghost use Rattle.refusal.specs.Refusal.{firstMet};
 ghost use Rattle.runs.specs.Painting.{runAt, runBad};
-ghost use Rattle.lineruns_text.specs.Writing.{axisText, runLines, lineConditions, told, printed};
+ghost use Rattle.lineruns_text.specs.Writing.{axisText, runLines, printConditions, told, printed};
 ghost use Rattle.lineruns_text.specs.Written.{written, Wrote};
 
 // The axis's letter.
@@ -45,7 +45,7 @@ fn write_list(listing: Listing, list: &[i32], output: &mut [u8]) -> usize
 // Writes what is printed for a line: its list, or why it is refused. A list of 5000 runs has 15000 numbers.
 fn answer_line(ends: Ends, output: &mut [u8]) -> usize
     requires { ⌜ 110000 ≤ length (now output) ⌝ }
-    ensures { λ r. ⌜ Wrote 0 (told (firstMet (lineConditions ends)) ends) (now (output .entry)) (now (output .exit)) r ⌝ }
+    ensures { λ r. ⌜ Wrote 0 (told (firstMet (printConditions ends)) ends) (now (output .entry)) (now (output .exit)) r ⌝ }
 {
     let mut list = [0i32; 15000];
     match list_runs(ends, &mut list) {

@@ -11,7 +11,7 @@ use lib.ListN.{length}
 use Rattle.counting.specs.Count.{any, sum, first}
 use Rattle.counting.proofs.Boolean.{clash, never}
 use Rattle.counting.proofs.Any.{any-make, any-none}
-use Rattle.counting.proofs.First.{first-none, first-at}
+use Rattle.counting.proofs.First.{first-none, first-at, none-any}
 use Rattle.coordinate.specs.declared.Axis.{Axis}
 use Rattle.coordinate.specs.declared.Axis.the-variants.{X, Y}
 use Rattle.refusal.specs.declared.Refusal.the-variants.{Run as BadRun}
@@ -49,17 +49,6 @@ module _ (list : List ℤ) where
   pub found-none : (n : ℕ) → LawfulTo n → Passed ≡ badCheck (firstBad list n)
   unfolding firstBad
   found-none n h = ap badCheck (sym (first-none n (runBad list) (λ i li. stored-bad i ∙ h i li)))
-
--- where no first is found there is none
-none-any : (n : ℕ) (f : ℕ → Bool) → first n f ≡ none → any n f ≡ false
-unfolding first any
-none-any zero f e = refl
-none-any (suc n) f e = go (any n f) (f n) refl (none-any n f) e
-  where
-    go : (t u : Bool) → any n f ≡ t → (first n f ≡ none → any n f ≡ false) → cond t (first n f) (cond u (some n) none) ≡ none → (t || u) ≡ false
-    go true u q ih r = absurd (clash (any n f) (ih r) q)
-    go false true q ih r = absurd (let z : _≡_ {A = ℕ} 0 1 = cc in omega arith)
-    go false false q ih r = refl
 
 pub all-lawful : (list : List ℤ) (n : ℕ) → firstBad list n ≡ none → LawfulTo list n
 unfolding firstBad

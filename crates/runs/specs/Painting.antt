@@ -35,10 +35,13 @@ abbrev pub runAt : List ℤ → ℕ → Run
 runAt list k = record { across = storedAcross list k; lowest = storedLowest list k; pixels = natural (storedPixels list k) }
 
 -- 8: a run's pixel number is below 1, or one of its pixels is out of the coordinate range
+abbrev pub numbersBad : ℤ → ℤ → ℤ → Bool
+numbersBad across lowest pixels =
+    ltZ pixels (pos 1) || any (natural pixels) (λ j. outOfRange across || outOfRange (lowest +ℤ pos j))
+
+-- of the run at place k
 unfoldable pub runBad : List ℤ → ℕ → Bool
-runBad list k =
-    ltZ (storedPixels list k) (pos 1)
-    || any (natural (storedPixels list k)) (λ j. outOfRange (storedAcross list k) || outOfRange (storedLowest list k +ℤ pos j))
+runBad list k = numbersBad (storedAcross list k) (storedLowest list k) (storedPixels list k)
 
 -- the place of the first bad run among the first n
 unfoldable pub firstBad : List ℤ → ℕ → Option ℕ

@@ -13,7 +13,7 @@ use Rattle.refusal.specs.declared.Check.{Check}
 use Rattle.refusal.specs.declared.Check.the-variants.{Passed, Refused}
 use Rattle.raster.specs.declared.window.Window.{Window}
 use Rattle.runs.specs.Run.{Run}
-use Rattle.runs.specs.Painting.{storedAcross, storedLowest, storedPixels, natural}
+use Rattle.runs.specs.Painting.{storedAcross, storedLowest, storedPixels, natural, numbersBad}
 use Rattle.runs.specs.declared.paint.Stored.{Stored}
 use Rattle.runs.specs.declared.paint.Part.{Part}
 use Rattle.runs.specs.declared.paint.Piece.{Piece}
@@ -28,8 +28,7 @@ runOf s = record { across = s .across; lowest = s .lowest; pixels = natural (s .
 
 -- 8, of one run
 unfoldable pub badRun : Stored → Bool
-badRun s =
-    ltZ (s .pixels) (pos 1) || any (natural (s .pixels)) (λ j. outOfRange (s .across) || outOfRange (s .lowest +ℤ pos j))
+badRun s = numbersBad (s .across) (s .lowest) (s .pixels)
 
 -- the place of the first bad run as a check's answer
 abbrev pub badCheck : Option ℕ → Check

@@ -1,6 +1,7 @@
 // The run painter.
 use coordinate::Axis;
 use coordinate::Coordinate;
+use coordinate::less;
 use raster::drawn::Drawn;
 use raster::drawn::Marks;
 use raster::mark::MASK;
@@ -11,7 +12,7 @@ use refusal::Refusal;
 ghost use mathlib.Core.Path.{_≡_};
 ghost use mathlib.Core.Bool.{false};
 ghost use mathlib.Core.Option.{none};
-ghost use Prim.Native.Nat.{_+_, _-_, _*_, _≤_, _<_};
+ghost use Prim.Native.Nat.{_+_, _*_, _≤_, _<_};
 ghost use lib.ListN.{length};
 ghost use Rattle.coordinate.specs.Coordinate.{outOfRange};
 ghost use Rattle.coordinate.specs.declared.Axis.the-variants.{Y};
@@ -97,13 +98,6 @@ fn check_runs(count: u32, list: &[i32]) -> Check
         k += 1;
     }
     Check::Passed
-}
-
-// `a` less `b`, or 0 where `b` is larger.
-fn less(a: u32, b: u32) -> u32
-    ensures { λ r. ⌜ r ≡ a - b ⌝ }
-{
-    if a < b { 0 } else { a - b }
 }
 
 // Of a side of `size` coordinates from `first` on, the part that the `n` coordinates from `low` on cover.
