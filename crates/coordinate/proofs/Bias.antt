@@ -9,7 +9,7 @@ use mir.Syntax.{w32}
 use mir.Val.{SFits}
 use Rattle.counting.proofs.Boolean.{or-neither, neither-or}
 use Rattle.coordinate.specs.Coordinate.{lowest, highest, outOfRange, biased, unbiased}
-use Rattle.coordinate.proofs.Difference.{Diff, above, below, diff-parts, diff-move, diff-eq, diff-same, diff-pos, diff-add, diff-minus, diff-apart, diff-nlt, diff-mag}
+use Rattle.coordinate.proofs.Difference.{Diff, above, below, diff-parts, diff-move, diff-eq, diff-same, diff-pos, diff-add, diff-plus, diff-minus, diff-apart, diff-nlt, diff-mag}
 
 diff-lowest : Diff lowest 0 16384
 diff-lowest = refl
@@ -60,6 +60,18 @@ unbiased-biased z e = diff-eq _ _ _ _ _ _ (diff-unbiased (biased z)) (diff-biase
 pub biased-unbiased : (n : ℕ) → n < 32768 → biased (unbiased n) ≡ n
 biased-unbiased n l =
     let d = diff-same (unbiased n) (unbiased n) _ _ _ _ (diff-biased (unbiased n) (unbiased-in n l)) (diff-unbiased n) refl in omega arith
+
+-- n above a coordinate, where that is a coordinate too
+module _ (z : ℤ) (n : ℕ) (e : outOfRange z ≡ false) (l : biased z + n < 32768) where
+  diff-shifted : Diff (z +ℤ pos n) (biased z + n) 16384
+  diff-shifted = diff-plus z (biased z) 16384 n (diff-biased z e)
+
+  pub shifted-in : outOfRange (z +ℤ pos n) ≡ false
+  shifted-in = range-in (z +ℤ pos n) (biased z + n) 16384 diff-shifted (omega arith) (omega arith)
+
+  pub biased-shifted : biased (z +ℤ pos n) ≡ biased z + n
+  biased-shifted =
+      let d = diff-same (z +ℤ pos n) (z +ℤ pos n) _ _ _ _ (diff-biased (z +ℤ pos n) shifted-in) diff-shifted refl in omega arith
 
 -- a coordinate in range fits a signed 32-bit number
 pub in-range-fits : (z : ℤ) → outOfRange z ≡ false → mag z < 2 ^ 31

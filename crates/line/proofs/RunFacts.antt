@@ -9,7 +9,6 @@ use native.Mathlib.Numerals.{add-one}
 use lib.IntN.{ℤ, pos, _+ℤ_}
 use lib.Signed.{ltZ}
 use lib.ListN.{length, getD, drop, length-append, List·getD-append}
-use lib.Dec.{ltb}
 use borrow.Author.Tests.{le-ltb}
 use Rattle.counting.specs.Count.{any, count, sum, each}
 use Rattle.counting.proofs.Boolean.{bool-iff, neither-or}
@@ -21,13 +20,14 @@ use Rattle.counting.proofs.Summed.{sum-cong, count-sum}
 use Rattle.coordinate.specs.Coordinate.{outOfRange}
 use Rattle.coordinate.specs.declared.Pixel.{Pixel}
 use Rattle.refusal.specs.Refusal.{given, firstMet}
-use Rattle.refusal.proofs.Conditions.{unmet, none-met, append-passed}
+use Rattle.refusal.proofs.Conditions.{none-met}
 use Rattle.raster.specs.Raster.{plus, inWindow}
 use Rattle.raster.specs.Window.{frameConditions}
 use Rattle.raster.specs.Bits.{point}
 use Rattle.raster.specs.declared.window.Window.{Window}
 use Rattle.runs.specs.Run.{Run, numbers, runList, runPixel, inRun, runCount}
 use Rattle.runs.specs.Painting.{storedAcross, storedLowest, storedPixels, natural, runAt, runBad, firstBad, inRuns, paintCount, paintConditions}
+use Rattle.runs.proofs.Outcome.{all-passed}
 use Rattle.line.specs.Line.{long, short, axis, distance, pixel, onLine, endsOut}
 use Rattle.line.specs.Runs.{firstStep, pixelsOf, run, runs}
 use Rattle.line.specs.Listing.{lineList}
@@ -227,11 +227,7 @@ module _ (e : Ends) (list : List ℤ) (w : Window) (s : List ℕ) (h : firstMet 
   long-enough = omega (arith, read-back e rest .length-is, length-append (runList (runs e)) rest)
 
   paint-met : firstMet (paintConditions w (length s) (lineList e list) (short e + 1)) ≡ 0
-  unfolding firstMet
-  paint-met =
-      let seven : Bool = ltb (length (lineList e list)) (3 * (short e + 1)) in
-      append-passed (frameConditions w (length s)) ((7, seven) ∷ []) (omega arith, (omega arith, (omega arith, tt))) frame-met
-      ∙ unmet 7 seven [] (le-ltb (length (lineList e list)) (3 * (short e + 1)) long-enough)
+  paint-met = all-passed w (length s) (lineList e list) (short e + 1) frame-met long-enough
 
   -- painting what the lister left is drawing the line, in the painter's whole answer
   pub listed-and-painted : ListedAndPainted e list w s

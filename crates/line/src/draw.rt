@@ -20,7 +20,7 @@ ghost use Rattle.line.specs.Walk.{Traced, Shown, stepPixels};
 ghost use Rattle.line.specs.Drawing.{lineConditions, lineCount, lineRaster};
 
 // Whether the ends, the window and a raster of `length` bytes are within the limits: passed, or refusal 1, 2, 3 or 4.
-fn check_line(ends: Ends, window: Window, length: usize) -> Check
+pub fn check_line(ends: Ends, window: Window, length: usize) -> Check
     ensures { λ r. ⌜ checked r ≡ answer (firstMet (lineConditions ends window length)) tt ⌝ }
 {
     let check = ends.check();

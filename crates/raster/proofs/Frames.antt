@@ -1,6 +1,6 @@
 -- A window that meets no condition is within its limits, and a raster that meets none is as long as its rows.
 use Prim.Native.Nat.{ℕ, _+_, _*_, _≤_, _<_}
-use mathlib.Core.Path.{_≡_, refl}
+use mathlib.Core.Path.{_≡_, refl, sym, _∙_}
 use mathlib.Core.Bool.{Bool, false}
 use mathlib.Core.List.{List, [], _∷_}
 use native.Mathlib.Omega.{arith}
@@ -8,7 +8,7 @@ use native.Mathlib.Nat.{mul-le-mul, mul-le-mul-right}
 use lib.IntN.{ℤ, pos, _+ℤ_}
 use lib.Signed.{ltZ}
 use lib.Dec.{ltb, lit≤}
-use borrow.Author.Tests.{ltb-true, ltb-false, lt-ltb, eqb-true, le-ltb, not-false}
+use borrow.Author.Tests.{ltb-true, ltb-false, lt-ltb, eqb-true, eq-eqb, le-ltb, not-false}
 use Rattle.counting.proofs.Boolean.{bool-iff, or-neither, neither-or}
 use Rattle.coordinate.specs.Coordinate.{highest, outOfRange, biased}
 use Rattle.coordinate.proofs.Difference.{Diff, diff-plus, diff-less, diff-lt, diff-nlt}
@@ -119,3 +119,16 @@ place-test z n e =
     (bool-iff _ _
     (λ t. law .1 (omega (arith, ltb-true 32768 (biased z + n) t)))
     (λ t. lt-ltb 32768 (biased z + n) (omega (arith, law .0 t))))
+
+-- and so what is within the limits meets no condition
+side-placed-in : (z : ℤ) (n : ℕ) → outOfRange z ≡ false → biased z + n ≤ 32768 → sidePlaceOut z n ≡ false
+side-placed-in z n e l = sym (place-test z n e) ∙ le-ltb 32768 (biased z + n) l
+
+pub frame-met : (w : Window) (n : ℕ) → Frame w n → firstMet (frameConditions w n) ≡ 0
+unfolding sizeOut placeOut lengthOff firstMet
+frame-met w n f =
+    let x = side-in (w .width) (f .size .width-min) (f .size .width-max) in
+    let y = side-in (w .height) (f .size .height-min) (f .size .height-max) in
+    let p = side-placed-in (w .left) (w .width) (f .place .left-in) (f .place .right) in
+    let q = side-placed-in (w .top) (w .height) (f .place .top-in) (f .place .bottom) in
+    rw (x, y, p, q, eq-eqb n (w .height * rowBytes (w .width)) (f .shape .length-is)) refl

@@ -1,0 +1,65 @@
+// The band drawer.
+use line::draw::check_line;
+use line::draw::draw_single;
+use line::ends::Ends;
+use raster::drawn::Drawn;
+use raster::window::Window;
+use refusal::Check;
+use refusal::Refusal;
+ghost use mathlib.Core.Path.{_≡_};
+ghost use lib.ListN.{length};
+ghost use Rattle.refusal.specs.Refusal.{given, answer, checked, firstMet, unlessRefused};
+ghost use Rattle.raster.specs.Drawn.{drawn};
+ghost use Rattle.band.specs.Drawing.{bandOut, bandConditions, bandCount, bandRaster};
+
+// Whether a band has no rows or ends below the window. The sum is made in 64 bits, where it cannot overflow.
+fn band_out(window: Window, first: u32, rows: u32) -> bool
+    ensures { λ r. ⌜ r ≡ bandOut window first rows ⌝ }
+{
+    rows == 0 || (window.height as u64) < first as u64 + rows as u64
+}
+
+// Whether the ends, the window, a raster of `length` bytes and a band are within the limits: passed, or refusal 1, 2, 3, 4 or 6.
+fn check_band(ends: Ends, window: Window, first: u32, rows: u32, length: usize) -> Check
+    ensures { λ r. ⌜ checked r ≡ answer (firstMet (bandConditions ends window length first rows)) tt ⌝ }
+{
+    let check = check_line(ends, window, length);
+    if let Check::Refused(refusal) = check {
+        return Check::Refused(refusal);
+    }
+    if band_out(window, first, rows) {
+        return Check::Refused(Refusal::Rows);
+    }
+    Check::Passed
+}
+
+// Draws in the band's rows, a part of the raster, with the window of these rows.
+fn draw_rows(ends: Ends, window: Window, first: u32, rows: u32, raster: &mut [u8]) -> Drawn
+    requires { ⌜ firstMet (bandConditions ends window (length (now raster)) first rows) ≡ 0 ⌝ }
+    ensures { λ r. ⌜ drawn r ≡ given (bandCount ends window first rows) ⌝ }
+    ensures { λ _. ⌜ now (raster .exit) ≡ bandRaster ends window first rows (now (raster .entry)) ⌝ }
+{
+    let bytes = window.row_bytes();
+    let from = first as usize * bytes;
+    let end = from + rows as usize * bytes;
+    let band = Window {
+        left: window.left,
+        top: window.top + first as i32,
+        width: window.width,
+        height: rows,
+    };
+    draw_single(ends, band, &mut raster[from..end])
+}
+
+// Marks the line's pixels in the band of `rows` rows from row `first` on, counted from 0 at the window's top, and answers how
+// many they are. Refused (1, 2, 3, 4, 6) it marks none.
+pub fn draw_band(ends: Ends, window: Window, first: u32, rows: u32, raster: &mut [u8]) -> Drawn
+    ensures { λ r. ⌜ drawn r ≡ answer (firstMet (bandConditions ends window (length (now (raster .entry))) first rows)) (bandCount ends window first rows) ⌝ }
+    ensures { λ _. ⌜ now (raster .exit) ≡ unlessRefused (firstMet (bandConditions ends window (length (now (raster .entry))) first rows)) (bandRaster ends window first rows (now (raster .entry))) (now (raster .entry)) ⌝ }
+{
+    let check = check_band(ends, window, first, rows, raster.len());
+    if let Check::Refused(refusal) = check {
+        return Drawn::Refused(refusal);
+    }
+    draw_rows(ends, window, first, rows, raster)
+}

@@ -1,0 +1,2 @@
+// Drawing a line band by band.
+pub mod draw;
