@@ -1,2 +1,4 @@
 pub mod Limits
 pub mod Rows
+pub mod Calls
+pub mod EqualRaster

@@ -3,7 +3,9 @@
 use Prim.Native.Nat.{ℕ, _+_}
 use mathlib.Core.Bool.{Bool, _||_}
 use mathlib.Core.List.{List, [], _∷_, _++_}
+use lib.ListN.{length}
 use lib.Dec.{ltb, eqb}
+use Rattle.refusal.specs.Refusal.{Answer, answer, unlessRefused, firstMet}
 use Rattle.raster.specs.Raster.{plus}
 use Rattle.raster.specs.Band.{bandWindow, rowsOf}
 use Rattle.raster.specs.declared.window.Window.{Window}
@@ -25,5 +27,11 @@ bandCount e w first rows = lineCount e (bandWindow w first rows)
 
 -- the raster after the band is drawn: the start plus the line's pixels in the rows from `first` up to, but without, first + rows
 unfoldable pub bandRaster : Ends → Window → ℕ → ℕ → List ℕ → List ℕ
-unfolding onLine
 bandRaster e w first rows s = plus w s (rowsOf w first rows (onLine e))
+
+-- what the band drawer answers to a line, a window, a raster and a band, and what it leaves in the raster
+abbrev pub bandAnswer : Ends → Window → List ℕ → ℕ → ℕ → Answer ℕ
+bandAnswer e w s first rows = answer (firstMet (bandConditions e w (length s) first rows)) (bandCount e w first rows)
+
+abbrev pub bandAfter : Ends → Window → List ℕ → ℕ → ℕ → List ℕ
+bandAfter e w s first rows = unlessRefused (firstMet (bandConditions e w (length s) first rows)) (bandRaster e w first rows s) s

@@ -8,9 +8,9 @@ use refusal::Check;
 use refusal::Refusal;
 ghost use mathlib.Core.Path.{_≡_};
 ghost use lib.ListN.{length};
-ghost use Rattle.refusal.specs.Refusal.{given, answer, checked, firstMet, unlessRefused};
+ghost use Rattle.refusal.specs.Refusal.{given, answer, checked, firstMet};
 ghost use Rattle.raster.specs.Drawn.{drawn};
-ghost use Rattle.band.specs.Drawing.{bandOut, bandConditions, bandCount, bandRaster};
+ghost use Rattle.band.specs.Drawing.{bandOut, bandConditions, bandCount, bandRaster, bandAnswer, bandAfter};
 
 // Whether a band has no rows or ends below the window. The sum is made in 64 bits, where it cannot overflow.
 fn band_out(window: Window, first: u32, rows: u32) -> bool
@@ -54,8 +54,8 @@ fn draw_rows(ends: Ends, window: Window, first: u32, rows: u32, raster: &mut [u8
 // Marks the line's pixels in the band of `rows` rows from row `first` on, counted from 0 at the window's top, and answers how
 // many they are. Refused (1, 2, 3, 4, 6) it marks none.
 pub fn draw_band(ends: Ends, window: Window, first: u32, rows: u32, raster: &mut [u8]) -> Drawn
-    ensures { λ r. ⌜ drawn r ≡ answer (firstMet (bandConditions ends window (length (now (raster .entry))) first rows)) (bandCount ends window first rows) ⌝ }
-    ensures { λ _. ⌜ now (raster .exit) ≡ unlessRefused (firstMet (bandConditions ends window (length (now (raster .entry))) first rows)) (bandRaster ends window first rows (now (raster .entry))) (now (raster .entry)) ⌝ }
+    ensures { λ r. ⌜ drawn r ≡ bandAnswer ends window (now (raster .entry)) first rows ⌝ }
+    ensures { λ _. ⌜ now (raster .exit) ≡ bandAfter ends window (now (raster .entry)) first rows ⌝ }
 {
     let check = check_band(ends, window, first, rows, raster.len());
     if let Check::Refused(refusal) = check {

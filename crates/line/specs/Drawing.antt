@@ -2,7 +2,9 @@
 use Prim.Native.Nat.{ℕ, suc}
 use mathlib.Core.Bool.{Bool}
 use mathlib.Core.List.{List, _++_}
+use lib.ListN.{length}
 use Rattle.counting.specs.Count.{count}
+use Rattle.refusal.specs.Refusal.{Answer, answer, unlessRefused, firstMet}
 use Rattle.raster.specs.Raster.{plus, inWindow}
 use Rattle.raster.specs.Window.{frameConditions}
 use Rattle.raster.specs.declared.window.Window.{Window}
@@ -22,3 +24,10 @@ lineRaster e w s = plus w s (onLine e)
 -- what refuses a line, a window and a raster of n bytes: 1, 2, 3, 4
 abbrev pub lineConditions : Ends → Window → ℕ → List (ℕ × Bool)
 lineConditions e w n = endsConditions e ++ frameConditions w n
+
+-- what a drawer answers to a line, a window and a raster, and what it leaves in the raster
+abbrev pub drawAnswer : Ends → Window → List ℕ → Answer ℕ
+drawAnswer e w s = answer (firstMet (lineConditions e w (length s))) (lineCount e w)
+
+abbrev pub drawAfter : Ends → Window → List ℕ → List ℕ
+drawAfter e w s = unlessRefused (firstMet (lineConditions e w (length s))) (lineRaster e w s) s

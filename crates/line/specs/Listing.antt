@@ -3,12 +3,12 @@ use Prim.Native.Nat.{ℕ, _+_, _*_}
 use mathlib.Core.Bool.{Bool}
 use mathlib.Core.List.{List, [], _∷_, _++_}
 use lib.IntN.{ℤ}
-use lib.ListN.{drop}
+use lib.ListN.{length, drop}
 use lib.Dec.{ltb}
 use Rattle.coordinate.specs.declared.Axis.{Axis}
-use Rattle.refusal.specs.Refusal.{Answer, given, turnedAway}
+use Rattle.refusal.specs.Refusal.{Answer, given, turnedAway, answer, unlessRefused, firstMet}
 use Rattle.runs.specs.Run.{runList}
-use Rattle.line.specs.Line.{short, endsConditions}
+use Rattle.line.specs.Line.{short, axis, endsConditions}
 use Rattle.line.specs.Runs.{runs}
 use Rattle.line.specs.declared.ends.Ends.{Ends}
 use Rattle.line.specs.declared.list.Listed.{Listed}
@@ -22,7 +22,14 @@ listConditions e n = endsConditions e ++ ((5, ltb n (3 * (short e + 1))) ∷ [])
 unfoldable pub lineList : Ends → List ℤ → List ℤ
 lineList e s = runList (runs e) ++ drop (3 * (short e + 1)) s
 
--- what the lister answers, in the paper's terms: the axis and the run count
+-- what the lister answers to a line and a list, the axis and the run count, and what it leaves in the list
+abbrev pub listAnswer : Ends → List ℤ → Answer (Axis × ℕ)
+listAnswer e s = answer (firstMet (listConditions e (length s))) (axis e, short e + 1)
+
+abbrev pub listAfter : Ends → List ℤ → List ℤ
+listAfter e s = unlessRefused (firstMet (listConditions e (length s))) (lineList e s) s
+
+-- the lister's answer in the paper's terms
 abbrev pub listed : Listed → Answer (Axis × ℕ)
 listed (Runs listing) = given (listing .axis, listing .runs)
 listed (Refused r) = turnedAway r

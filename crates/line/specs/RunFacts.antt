@@ -10,12 +10,11 @@ use lib.Signed.{ltZ}
 use lib.ListN.{length}
 use Rattle.counting.specs.Count.{any, sum}
 use Rattle.coordinate.specs.Coordinate.{along}
-use Rattle.coordinate.specs.declared.Axis.{Axis}
-use Rattle.refusal.specs.Refusal.{Answer, given, firstMet}
+use Rattle.refusal.specs.Refusal.{given}
 use Rattle.raster.specs.Raster.{plus}
 use Rattle.raster.specs.declared.window.Window.{Window}
 use Rattle.runs.specs.Run.{runList, runPixel, inRun, runCount}
-use Rattle.runs.specs.Painting.{storedAcross, storedLowest, storedPixels, runAt, runBad, firstBad, inRuns, paintCount, paintConditions, painted, unlessBad}
+use Rattle.runs.specs.Painting.{storedAcross, storedLowest, storedPixels, runAt, runBad, firstBad, inRuns, paintCount, paintAnswer, paintAfter}
 use Rattle.line.specs.Line.{long, short, axis, distance, pixel, onLine, endsOut}
 use Rattle.line.specs.Runs.{firstStep, pixelsOf, run, runs}
 use Rattle.line.specs.Listing.{lineList}
@@ -88,15 +87,8 @@ pub record Painted (e : Ends) (rest : List ℤ) : Type 0 where
   pub counts : (w : Window) → paintCount (axis e) (listThen e rest) (short e + 1) w ≡ lineCount e w
   pub raster : (w : Window) (s : List ℕ) → plus w s (inRuns (axis e) (listThen e rest) (short e + 1)) ≡ lineRaster e w s
 
--- what the painter answers and leaves, by its contract, for the first n runs of a list
-abbrev pub paintAnswer : Axis → ℕ → List ℤ → Window → List ℕ → Answer ℕ
-paintAnswer a n list w s = painted (firstMet (paintConditions w (length s) list n)) (firstBad list n) (paintCount a list n w)
-
-abbrev pub paintRaster : Axis → ℕ → List ℤ → Window → List ℕ → List ℕ
-paintRaster a n list w s = unlessBad (firstMet (paintConditions w (length s) list n)) (firstBad list n) (plus w s (inRuns a list n)) s
-
 -- the painter, given the axis, the number of runs and the list that the lister left, does not refuse: its raster and its sum
 -- are the drawers' raster and count
 pub record ListedAndPainted (e : Ends) (list : List ℤ) (w : Window) (s : List ℕ) : Type 0 where
   pub answer-is : paintAnswer (axis e) (short e + 1) (lineList e list) w s ≡ given (lineCount e w)
-  pub raster-is : paintRaster (axis e) (short e + 1) (lineList e list) w s ≡ lineRaster e w s
+  pub raster-is : paintAfter (axis e) (short e + 1) (lineList e list) w s ≡ lineRaster e w s

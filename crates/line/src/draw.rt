@@ -12,12 +12,12 @@ use refusal::Check;
 ghost use mathlib.Core.Path.{_≡_};
 ghost use Prim.Native.Nat.{_-_};
 ghost use lib.ListN.{length};
-ghost use Rattle.refusal.specs.Refusal.{answer, checked, firstMet, unlessRefused};
+ghost use Rattle.refusal.specs.Refusal.{answer, checked, firstMet};
 ghost use Rattle.raster.specs.Raster.{plus};
 ghost use Rattle.raster.specs.Window.{frameConditions};
 ghost use Rattle.raster.specs.Drawn.{drawn};
 ghost use Rattle.line.specs.Walk.{Traced, Shown, stepPixels};
-ghost use Rattle.line.specs.Drawing.{lineConditions, lineCount, lineRaster};
+ghost use Rattle.line.specs.Drawing.{lineConditions, drawAnswer, drawAfter};
 
 // Whether the ends, the window and a raster of `length` bytes are within the limits: passed, or refusal 1, 2, 3 or 4.
 pub fn check_line(ends: Ends, window: Window, length: usize) -> Check
@@ -44,8 +44,8 @@ fn walk_by(in_pairs: bool, line: Line, window: Window, from: u32, end: u32, rast
 
 // Both drawers: the check, the visible steps, the walk through them.
 fn draw(in_pairs: bool, ends: Ends, window: Window, raster: &mut [u8]) -> Drawn
-    ensures { λ r. ⌜ drawn r ≡ answer (firstMet (lineConditions ends window (length (now (raster .entry))))) (lineCount ends window) ⌝ }
-    ensures { λ _. ⌜ now (raster .exit) ≡ unlessRefused (firstMet (lineConditions ends window (length (now (raster .entry))))) (lineRaster ends window (now (raster .entry))) (now (raster .entry)) ⌝ }
+    ensures { λ r. ⌜ drawn r ≡ drawAnswer ends window (now (raster .entry)) ⌝ }
+    ensures { λ _. ⌜ now (raster .exit) ≡ drawAfter ends window (now (raster .entry)) ⌝ }
 {
     let check = check_line(ends, window, raster.len());
     if let Check::Refused(refusal) = check {
@@ -65,8 +65,8 @@ fn draw(in_pairs: bool, ends: Ends, window: Window, raster: &mut [u8]) -> Drawn
 
 // Marks the line's pixels in the window, step by step, and answers how many they are. Refused (1, 2, 3, 4) it marks none.
 pub fn draw_single(ends: Ends, window: Window, raster: &mut [u8]) -> Drawn
-    ensures { λ r. ⌜ drawn r ≡ answer (firstMet (lineConditions ends window (length (now (raster .entry))))) (lineCount ends window) ⌝ }
-    ensures { λ _. ⌜ now (raster .exit) ≡ unlessRefused (firstMet (lineConditions ends window (length (now (raster .entry))))) (lineRaster ends window (now (raster .entry))) (now (raster .entry)) ⌝ }
+    ensures { λ r. ⌜ drawn r ≡ drawAnswer ends window (now (raster .entry)) ⌝ }
+    ensures { λ _. ⌜ now (raster .exit) ≡ drawAfter ends window (now (raster .entry)) ⌝ }
 {
     draw(false, ends, window, raster)
 }
@@ -74,8 +74,8 @@ pub fn draw_single(ends: Ends, window: Window, raster: &mut [u8]) -> Drawn
 // Marks the line's pixels in the window, two steps at a time, and answers how many they are. Refused (1, 2, 3, 4) it
 // marks none.
 pub fn draw_double(ends: Ends, window: Window, raster: &mut [u8]) -> Drawn
-    ensures { λ r. ⌜ drawn r ≡ answer (firstMet (lineConditions ends window (length (now (raster .entry))))) (lineCount ends window) ⌝ }
-    ensures { λ _. ⌜ now (raster .exit) ≡ unlessRefused (firstMet (lineConditions ends window (length (now (raster .entry))))) (lineRaster ends window (now (raster .entry))) (now (raster .entry)) ⌝ }
+    ensures { λ r. ⌜ drawn r ≡ drawAnswer ends window (now (raster .entry)) ⌝ }
+    ensures { λ _. ⌜ now (raster .exit) ≡ drawAfter ends window (now (raster .entry)) ⌝ }
 {
     draw(true, ends, window, raster)
 }

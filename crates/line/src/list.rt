@@ -13,11 +13,9 @@ ghost use mathlib.Core.List.{_++_};
 ghost use Prim.Native.Nat.{_+_, _-_, _*_, _≤_, _<_};
 ghost use lib.ListN.{length, take, drop};
 ghost use Rattle.coordinate.specs.declared.Axis.the-variants.{X, Y};
-ghost use Rattle.refusal.specs.Refusal.{answer, firstMet, unlessRefused};
 ghost use Rattle.runs.specs.Run.{numbers};
-ghost use Rattle.line.specs.Line.{axis, short};
 ghost use Rattle.line.specs.Runs.{firstStep, run};
-ghost use Rattle.line.specs.Listing.{listConditions, lineList, listed};
+ghost use Rattle.line.specs.Listing.{lineList, listAnswer, listAfter, listed};
 ghost use Rattle.line.specs.Lister.{listedTo, Spans, Laid, Follows};
 ghost use Rattle.line.specs.Walk.{Traced};
 
@@ -158,8 +156,8 @@ fn list_all(line: Line, list: &mut [i32])
 // Writes the line's runs, three numbers to a run, in the line's order from the first end, and leaves the rest of the list.
 // Answers the axis and the number of runs. Refused (1, 5) it writes nothing.
 pub fn list_runs(ends: Ends, list: &mut [i32]) -> Listed
-    ensures { λ r. ⌜ listed r ≡ answer (firstMet (listConditions ends (length (now (list .entry))))) (axis ends, short ends + 1) ⌝ }
-    ensures { λ _. ⌜ now (list .exit) ≡ unlessRefused (firstMet (listConditions ends (length (now (list .entry))))) (lineList ends (now (list .entry))) (now (list .entry)) ⌝ }
+    ensures { λ r. ⌜ listed r ≡ listAnswer ends (now (list .entry)) ⌝ }
+    ensures { λ _. ⌜ now (list .exit) ≡ listAfter ends (now (list .entry)) ⌝ }
 {
     let check = ends.check();
     if let Check::Refused(refusal) = check {

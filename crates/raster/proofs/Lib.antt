@@ -10,3 +10,4 @@ pub mod Inside
 pub mod Passing
 pub mod Searching
 pub mod Placing
+pub mod StartPlus

@@ -10,7 +10,8 @@ use lib.Dec.{ltb}
 use Rattle.counting.specs.Count.{any, sum, first}
 use Rattle.coordinate.specs.Coordinate.{outOfRange}
 use Rattle.coordinate.specs.declared.Axis.{Axis}
-use Rattle.refusal.specs.Refusal.{Answer, given, refused, refusedAt}
+use Rattle.refusal.specs.Refusal.{Answer, given, refused, refusedAt, firstMet}
+use Rattle.raster.specs.Raster.{plus}
 use Rattle.raster.specs.Window.{frameConditions}
 use Rattle.raster.specs.declared.window.Window.{Window}
 use Rattle.runs.specs.Run.{Run, inRun, runCount}
@@ -73,3 +74,11 @@ abbrev pub unlessBad : {A : Type 0} → ℕ → Option ℕ → A → A → A
 unlessBad zero none work other = work
 unlessBad zero (some place) work other = other
 unlessBad (suc n) bad work other = other
+
+-- what the painter answers to an axis, a count n, a list, a window and a raster, and what it leaves in the raster
+abbrev pub paintAnswer : Axis → ℕ → List ℤ → Window → List ℕ → Answer ℕ
+paintAnswer axis n list w s = painted (firstMet (paintConditions w (length s) list n)) (firstBad list n) (paintCount axis list n w)
+
+abbrev pub paintAfter : Axis → ℕ → List ℤ → Window → List ℕ → List ℕ
+paintAfter axis n list w s =
+    unlessBad (firstMet (paintConditions w (length s) list n)) (firstBad list n) (plus w s (inRuns axis list n)) s

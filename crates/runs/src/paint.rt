@@ -21,7 +21,7 @@ ghost use Rattle.raster.specs.Raster.{plus};
 ghost use Rattle.raster.specs.Window.{sizeOut, placeOut, frameConditions};
 ghost use Rattle.raster.specs.Drawn.{drawn};
 ghost use Rattle.runs.specs.Run.{inRun, runCount};
-ghost use Rattle.runs.specs.Painting.{natural, paintConditions, firstBad, inRuns, paintCount, painted, unlessBad};
+ghost use Rattle.runs.specs.Painting.{natural, firstBad, inRuns, paintCount, paintAnswer, paintAfter};
 ghost use Rattle.runs.specs.Parts.{storedAt, runOf, badRun, badCheck, cutPart, turnedWindow, pieceOf, downFrom};
 
 // The three numbers of a stored run.
@@ -199,8 +199,8 @@ fn paint_all(axis: Axis, count: u32, list: &[i32], window: Window, raster: &mut 
 // overlap counted each time. All runs are checked before the first bit changes; numbers after the counted runs are not
 // looked at. Refused (2, 3, 4, 7, and 8 with the place of the first bad run) it marks nothing.
 pub fn paint_runs(axis: Axis, count: u32, list: &[i32], window: Window, raster: &mut [u8]) -> Drawn
-    ensures { λ r. ⌜ drawn r ≡ painted (firstMet (paintConditions window (length (now (raster .entry))) (now (list .entry)) count)) (firstBad (now (list .entry)) count) (paintCount axis (now (list .entry)) count window) ⌝ }
-    ensures { λ _. ⌜ now (raster .exit) ≡ unlessBad (firstMet (paintConditions window (length (now (raster .entry))) (now (list .entry)) count)) (firstBad (now (list .entry)) count) (plus window (now (raster .entry)) (inRuns axis (now (list .entry)) count)) (now (raster .entry)) ⌝ }
+    ensures { λ r. ⌜ drawn r ≡ paintAnswer axis count (now (list .entry)) window (now (raster .entry)) ⌝ }
+    ensures { λ _. ⌜ now (raster .exit) ≡ paintAfter axis count (now (list .entry)) window (now (raster .entry)) ⌝ }
 {
     let frame = window.check_frame(raster.len());
     if let Check::Refused(refusal) = frame {

@@ -1,0 +1,66 @@
+-- The equal-raster rule: painting and the bands both leave the start plus pixels of the line, all of them where the bands
+-- take in every row.
+use Prim.Native.Nat.{ℕ, _+_, _*_}
+use mathlib.Core.Path.{_≡_, refl, sym, ap, _∙_}
+use mathlib.Core.Bool.{Bool, _&&_}
+use mathlib.Core.List.{List}
+use lib.IntN.{ℤ, pos, _+ℤ_}
+use lib.ListN.{length}
+use Rattle.refusal.specs.Refusal.{firstMet, answer, unlessRefused}
+use Rattle.refusal.proofs.Conditions.{none-met}
+use Rattle.raster.specs.Window.{frameConditions}
+use Rattle.raster.specs.declared.window.Window.{Window}
+use Rattle.raster.proofs.Frames.{Frame, frame}
+use Rattle.raster.proofs.Over.{Bytes}
+use Rattle.raster.proofs.Plus.{plus-cong}
+use Rattle.raster.proofs.StartPlus.{start-plus}
+use Rattle.runs.specs.Painting.{paintAfter}
+use Rattle.interpolation.proofs.Facts.{half-pixel}
+use Rattle.line.specs.Line.{short, axis, distance, onLine, endsOut}
+use Rattle.line.specs.Listing.{listConditions, lineList, listAfter}
+use Rattle.line.specs.Drawing.{lineConditions, lineRaster}
+use Rattle.line.specs.declared.ends.Ends.{Ends}
+use Rattle.line.proofs.Pixels.{short-le, rounding}
+use Rattle.line.proofs.RunPixels.{lengths}
+use Rattle.line.proofs.RunFacts.{runs-are-line, listed-and-painted}
+use Rattle.band.specs.Calls.{Band, afterBands, bandsOf, EveryRow}
+use Rattle.band.specs.EqualRaster.{EqualRaster}
+use Rattle.band.proofs.Calls.{call-answer, bands-after, bands-lawful}
+
+module _ (e : Ends) (w : Window) (s : List ℕ) (list : List ℤ) (bands : List Band)
+    (lawful : firstMet (lineConditions e w (length s)) ≡ 0) (room : firstMet (listConditions e (length list)) ≡ 0) (bytes : Bytes s) where
+  frm : Frame w (length s)
+  frm = frame w (length s) (none-met 0 (endsOut e) (frameConditions w (length s)) lawful .1)
+
+  listed-so : listAfter e list ≡ lineList e list
+  listed-so = ap (λ (n : ℕ). unlessRefused n (lineList e list) list) room
+
+  every-pixel : EveryRow w bands → lineRaster e w s ≡ afterBands e w s bands
+  unfolding lineRaster
+  every-pixel all =
+      plus-cong w s (frm .shape) _ _ (λ c r lc lr. ap (λ (t : Bool). t && onLine e (w .left +ℤ pos c) (w .top +ℤ pos r)) (sym (all r lr)))
+      ∙ sym (bands-after e w s lawful (frm .shape) bytes bands)
+
+  -- whatever holds these three buffers as the operations leave them
+  pub equal-rasters : (listed : List ℤ) (painted banded : List ℕ) → listed ≡ lineList e list → painted ≡ lineRaster e w s
+      → banded ≡ afterBands e w s bands → EqualRaster e w s list bands listed painted banded
+  unfolding lineList lineRaster distance
+  equal-rasters listed painted banded p q r =
+      record {
+        lister-answers = ap (λ (n : ℕ). answer n (axis e, short e + 1)) room;
+        listed-is = p;
+        runs-are-line = runs-are-line e;
+        painter-answers = rw p (listed-and-painted e list w s lawful .answer-is);
+        painted-is = q;
+        band-answers = λ before b. call-answer e w (afterBands e w s before) (bands-lawful e w s lawful (frm .shape) bytes before) b;
+        banded-is = r ∙ bands-after e w s lawful (frm .shape) bytes bands;
+        equal = λ all. q ∙ every-pixel all ∙ sym r;
+        half-pixel = half-pixel (short-le e) (rounding e) .half-pixel;
+        runs-alike = lengths e .alike;
+        start-plus = start-plus w s (frm .shape);
+      }
+
+  -- the rule, of what the contracts of lister, painter and band drawer say
+  pub equal-raster : EqualRaster e w s list bands (listAfter e list) (paintAfter (axis e) (short e + 1) (listAfter e list) w s) (afterBands e w s bands)
+  equal-raster =
+      equal-rasters _ _ _ listed-so (rw listed-so (listed-and-painted e list w s lawful .raster-is)) refl
