@@ -25,7 +25,7 @@ use Rattle.line.proofs.RunPixels.{lengths}
 use Rattle.line.proofs.RunFacts.{runs-are-line, listed-and-painted}
 use Rattle.band.specs.Calls.{Band, afterBands, bandsOf, EveryRow}
 use Rattle.band.specs.EqualRaster.{EqualRaster}
-use Rattle.band.proofs.Calls.{call-answer, bands-after, bands-lawful}
+use Rattle.band.proofs.CallLaws.{call-answer, bands-after, bands-lawful}
 
 module _ (e : Ends) (w : Window) (s : List ℕ) (list : List ℤ) (bands : List Band)
     (lawful : firstMet (lineConditions e w (length s)) ≡ 0) (room : firstMet (listConditions e (length list)) ≡ 0) (bytes : Bytes s) where

@@ -1,4 +1,5 @@
 pub mod Limits
 pub mod Rows
-pub mod Calls
+pub mod CallLaws
 pub mod EqualRaster
+pub mod BothLaws

@@ -5,11 +5,12 @@ use mathlib.Core.Bool.{Bool, true, false, not, _&&_, _||_}
 use mathlib.Core.List.{List, [], _∷_}
 use lib.IntN.{ℤ, pos, _+ℤ_}
 use lib.ListN.{length, getD}
-use Rattle.counting.specs.Count.{each}
+use Rattle.counting.specs.Count.{count, each}
+use Rattle.refusal.specs.Refusal.{isRefused}
 use Rattle.raster.specs.Band.{inRows}
 use Rattle.raster.specs.declared.window.Window.{Window}
 use Rattle.line.specs.declared.ends.Ends.{Ends}
-use Rattle.band.specs.Drawing.{bandOut, bandAfter}
+use Rattle.band.specs.Drawing.{bandOut, bandAnswer, bandAfter}
 
 -- a call's band: its first row, counted from 0 at the window's top, and its number of rows
 pub record Band : Type 0 where
@@ -47,3 +48,7 @@ bandAt list k = record { first = getD list (2 * k) 0; rows = getD list (2 * k + 
 -- all bands; a last number alone is none
 unfoldable pub bandList : List ℕ → List Band
 bandList list = each (length list / 2) (bandAt list)
+
+-- how many of the calls are refused; the raster's length, which no call changes, has a part in it
+unfoldable pub refusedCalls : Ends → Window → List ℕ → List ℕ → ℕ
+refusedCalls e w s list = count (length list / 2) (λ k. isRefused (bandAnswer e w s (bandAt list k .first) (bandAt list k .rows)))

@@ -1,3 +1,4 @@
 pub mod Drawing
 pub mod Calls
 pub mod EqualRaster
+pub mod BothWays

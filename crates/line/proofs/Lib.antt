@@ -11,3 +11,4 @@ pub mod Drawn
 pub mod Listing
 pub mod RunPixels
 pub mod RunFacts
+pub mod ListAnswer

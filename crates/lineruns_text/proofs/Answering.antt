@@ -17,10 +17,11 @@ use Rattle.counting.proofs.Boolean.{tell, bool-iff}
 use Rattle.counting.proofs.Each.{each-cong}
 use Rattle.coordinate.specs.Coordinate.{along}
 use Rattle.coordinate.specs.declared.Axis.{Axis}
-use Rattle.refusal.specs.Refusal.{Answer, given, refused, refusedAt, turnedAway, answer, unlessRefused, numberOf, number, firstMet}
+use Rattle.refusal.specs.Refusal.{turnedAway, answer, unlessRefused, numberOf, number, firstMet}
 use Rattle.refusal.specs.declared.Refusal.{Refusal}
 use Rattle.refusal.specs.declared.Refusal.the-variants.{Ends as BadEnds, Size, Place, RasterLength, ListLength, Rows, RunCount, Run as BadRun, Input}
 use Rattle.refusal.proofs.Conditions.{none-met}
+use Rattle.refusal.proofs.Handing.{number-answer}
 use Rattle.runs.specs.Painting.{runAt, runBad}
 use Rattle.line.specs.Line.{short, axis, endsOut}
 use Rattle.line.specs.Runs.{run, runs}
@@ -30,6 +31,7 @@ use Rattle.line.specs.declared.ends.Ends.{Ends}
 use Rattle.line.specs.declared.list.Listing.{Listing}
 use Rattle.line.specs.declared.list.Listed.{Listed}
 use Rattle.line.specs.declared.list.Listed.the-variants.{Runs, Refused}
+use Rattle.line.proofs.ListAnswer.{listing-met, listing-axis, listing-runs}
 use Rattle.line.proofs.RunFacts.{read-back, none-bad}
 use Rattle.lineruns_text.specs.Writing.{axisText, axisLine, refusedLine, runLines, printConditions, told, answerTo, printed}
 use Rattle.lineruns_text.specs.Reading.{lineOf}
@@ -87,21 +89,6 @@ number-small RunCount = (omega arith, omega arith)
 number-small (BadRun place) = (omega arith, omega arith)
 number-small Input = (omega arith, omega arith)
 
-module _ {A : Type 0} where
-  value : A → Answer A → A
-  value other (given a) = a
-  value other (refused n) = other
-  value other (refusedAt n place) = other
-
-  number-answer : (n : ℕ) (b : A) → numberOf (answer n b) ≡ n
-  number-answer zero b = refl
-  number-answer (suc n) b = refl
-
-  given-by : (n : ℕ) (a b : A) → given a ≡ answer n b → (n ≡ 0) × (a ≡ b)
-  unfolding value
-  given-by zero a b e = (refl, ap (value a) e)
-  given-by (suc n) a b e = absurd (omega (arith, ap numberOf e))
-
 -- ---- what the lister says of the printed text
 
 room-same : (n : ℕ) → ltb 15000 (3 * n) ≡ ltb 5000 n
@@ -129,17 +116,17 @@ module _ (e : Ends) (space list : List ℤ) (size : length space ≡ 15000) (r :
       (sym (number-is (Axis × ℕ) q) ∙ ap numberOf (sym (ap listed is) ∙ answered) ∙ number-answer met (axis e, short e + 1) ∙ met-same)
 
   module _ (l : Listing) (is : r ≡ Runs l) where
-    by : (met ≡ 0) × (_≡_ {A = Axis × ℕ} (l .axis, l .runs) (axis e, short e + 1))
-    by = given-by met (l .axis, l .runs) (axis e, short e + 1) (sym (ap listed is) ∙ answered)
+    none-met-here : met ≡ 0
+    none-met-here = listing-met e space r answered l is
 
     pub axis-is : l .axis ≡ axis e
-    axis-is = ap (λ (p : Axis × ℕ). p .0) (by .1)
+    axis-is = listing-axis e space r answered l is
 
     pub runs-is : l .runs ≡ short e + 1
-    runs-is = ap (λ (p : Axis × ℕ). p .1) (by .1)
+    runs-is = listing-runs e space r answered l is
 
     none-is : firstMet (printConditions e) ≡ 0
-    none-is = sym met-same ∙ by .0
+    none-is = sym met-same ∙ none-met-here
 
     within : endsOut e ≡ false
     within = none-met 0 (endsOut e) _ none-is .0
@@ -152,7 +139,7 @@ module _ (e : Ends) (space list : List ℤ) (size : length space ≡ 15000) (r :
 
     list-is : list ≡ listThen e rest
     unfolding lineList
-    list-is = left ∙ ap (λ (n : ℕ). unlessRefused {A = List ℤ} n (lineList e space) space) (by .0)
+    list-is = left ∙ ap (λ (n : ℕ). unlessRefused {A = List ℤ} n (lineList e space) space) none-met-here
 
     pub list-room : 3 * l .runs ≤ length list
     list-room = rw list-is (simp length-append (omega (arith, runs-is, read-back e rest .length-is)))

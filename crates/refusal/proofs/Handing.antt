@@ -1,10 +1,10 @@
 -- An operation hands a check's refusal on: its answer is then that refusal, and its buffers stay as they were.
 use Prim.Native.Nat.{ℕ, zero, suc}
-use mathlib.Core.Bool.{Bool}
+use mathlib.Core.Bool.{Bool, true}
 use mathlib.Core.List.{List, _++_}
 use mathlib.Core.Path.{_≡_, refl, sym, ap, _∙_}
 use native.Mathlib.Omega.{arith}
-use Rattle.refusal.specs.Refusal.{Answer, given, refused, refusedAt, turnedAway, answer, unlessRefused, numberOf, checked, firstMet}
+use Rattle.refusal.specs.Refusal.{Answer, given, refused, refusedAt, turnedAway, answer, unlessRefused, numberOf, isRefused, checked, firstMet}
 use Rattle.refusal.specs.declared.Refusal.{Refusal}
 use Rattle.refusal.specs.declared.Refusal.the-variants.{Ends, Size, Place, RasterLength, ListLength, Rows, RunCount, Run, Input}
 use Rattle.refusal.specs.declared.Check.{Check}
@@ -17,22 +17,23 @@ instead b (given a) = given b
 instead b (refused n) = refused n
 instead b (refusedAt n place) = refusedAt n place
 
-instead-turned : {B : Type 0} (b : B) (r : Refusal) → instead b (turnedAway {A = Unit} r) ≡ turnedAway r
-unfolding instead
-instead-turned b Ends = refl
-instead-turned b Size = refl
-instead-turned b Place = refl
-instead-turned b RasterLength = refl
-instead-turned b ListLength = refl
-instead-turned b Rows = refl
-instead-turned b RunCount = refl
-instead-turned b (Run place) = refl
-instead-turned b Input = refl
+module _ {B : Type 0} (b : B) where
+  instead-turned : (A : Type 0) (r : Refusal) → instead b (turnedAway {A = A} r) ≡ turnedAway r
+  unfolding instead
+  instead-turned A Ends = refl
+  instead-turned A Size = refl
+  instead-turned A Place = refl
+  instead-turned A RasterLength = refl
+  instead-turned A ListLength = refl
+  instead-turned A Rows = refl
+  instead-turned A RunCount = refl
+  instead-turned A (Run place) = refl
+  instead-turned A Input = refl
 
-instead-answer : {B : Type 0} (b : B) (n : ℕ) → instead b (answer {A = Unit} n tt) ≡ answer n b
-unfolding instead
-instead-answer b zero = refl
-instead-answer b (suc n) = refl
+  instead-answer : {A : Type 0} (n : ℕ) (a : A) → instead b (answer n a) ≡ answer n b
+  unfolding instead
+  instead-answer zero a = refl
+  instead-answer (suc n) a = refl
 
 -- every refusal has a number
 turned-number : (r : Refusal) → numberOf (turnedAway {A = Unit} r) ≡ 0 → ⊥
@@ -45,6 +46,17 @@ turned-number Rows e = omega arith
 turned-number RunCount e = omega arith
 turned-number (Run place) e = omega arith
 turned-number Input e = omega arith
+
+pub turned-refused : (A : Type 0) (r : Refusal) → isRefused (turnedAway {A = A} r) ≡ true
+turned-refused A Ends = refl
+turned-refused A Size = refl
+turned-refused A Place = refl
+turned-refused A RasterLength = refl
+turned-refused A ListLength = refl
+turned-refused A Rows = refl
+turned-refused A RunCount = refl
+turned-refused A (Run place) = refl
+turned-refused A Input = refl
 
 -- what a check's answer says of the number that it tested
 module _ (check : Check) (n : ℕ) (told : checked check ≡ answer n tt) where
@@ -61,7 +73,11 @@ module _ (check : Check) (n : ℕ) (told : checked check ≡ answer n tt) where
 -- an operation that answers the check's refusal: its answer, and a buffer that it does not touch
 module _ {A : Type 0} (r : Refusal) where
   pub handed-on : (n : ℕ) (a : A) → _≡_ {A = Answer Unit} (turnedAway r) (answer n tt) → turnedAway r ≡ answer n a
-  handed-on n a e = sym (instead-turned a r) ∙ ap (instead a) e ∙ instead-answer a n
+  handed-on n a e = sym (instead-turned a Unit r) ∙ ap (instead a) e ∙ instead-answer a n tt
+
+  -- and back: what an operation's refusal says of the number that it tested
+  pub handed-back : (n : ℕ) (a : A) → turnedAway r ≡ answer n a → _≡_ {A = Answer Unit} (turnedAway r) (answer n tt)
+  handed-back n a e = sym (instead-turned tt A r) ∙ ap (instead tt) e ∙ instead-answer tt n a
 
   pub kept : (n : ℕ) (work start : A) → _≡_ {A = Answer Unit} (turnedAway r) (answer n tt) → start ≡ unlessRefused n work start
   kept zero work start e = absurd (turned-number r (ap numberOf e))
@@ -80,3 +96,19 @@ same-number r cs ds e = go (firstMet cs) refl e
 pub handed-more : {A : Type 0} (r : Refusal) (cs ds : List (ℕ × Bool)) (a : A) → _≡_ {A = Answer Unit} (turnedAway r) (answer (firstMet cs) tt)
     → turnedAway r ≡ answer (firstMet (cs ++ ds)) a
 handed-more r cs ds a e = handed-on r (firstMet cs) a e ∙ ap (λ (n : ℕ). answer n a) (sym (same-number r cs ds e))
+
+-- what an operation's values say of the number that it tested
+module _ {A : Type 0} where
+  value : A → Answer A → A
+  value other (given a) = a
+  value other (refused n) = other
+  value other (refusedAt n place) = other
+
+  pub number-answer : (n : ℕ) (b : A) → numberOf (answer n b) ≡ n
+  number-answer zero b = refl
+  number-answer (suc n) b = refl
+
+  pub given-by : (n : ℕ) (a b : A) → given a ≡ answer n b → (n ≡ 0) × (a ≡ b)
+  unfolding value
+  given-by zero a b e = (refl, ap (value a) e)
+  given-by (suc n) a b e = absurd (omega (arith, ap numberOf e))

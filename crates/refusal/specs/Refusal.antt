@@ -1,6 +1,6 @@
 -- Document 01, 'Turned away': the numbers of the refusals, and an operation's answer in the paper's terms. Assumes nothing.
 use Prim.Native.Nat.{ℕ, zero, suc}
-use mathlib.Core.Bool.{Bool, cond}
+use mathlib.Core.Bool.{Bool, true, false, cond}
 use mathlib.Core.List.{List, [], _∷_}
 use Rattle.refusal.specs.declared.Refusal.{Refusal}
 use Rattle.refusal.specs.declared.Refusal.the-variants.{Ends, Size, Place, RasterLength, ListLength, Rows, RunCount, Run, Input}
@@ -38,6 +38,12 @@ numberOf (refusedAt n place) = n
 
 abbrev pub number : Refusal → ℕ
 number r = numberOf (turnedAway {A = Unit} r)
+
+-- an answer is a refusal
+abbrev pub isRefused : {A : Type 0} → Answer A → Bool
+isRefused (given a) = false
+isRefused (refused n) = true
+isRefused (refusedAt n place) = true
 
 -- of an operation's conditions, in their order and each with its number, the number of the first that is met; 0 where none is
 unfoldable pub firstMet : List (ℕ × Bool) → ℕ

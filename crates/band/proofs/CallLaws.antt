@@ -1,14 +1,16 @@
 -- A list of band calls: each accepted one adds the line's pixels in its rows, each refused one nothing, so after all of them
 -- the raster is the start plus the line's pixels in the accepted rows.
-use Prim.Native.Nat.{ℕ, zero, suc}
-use mathlib.Core.Path.{_≡_, refl, sym, ap, _∙_}
+use Prim.Native.Nat.{ℕ, zero, suc, _+_, _/_, _≤_}
+use mathlib.Core.Path.{_≡_, refl, sym, ap, ap₂, _∙_}
 use mathlib.Core.Bool.{Bool, true, false, cond, not, _&&_, _||_, and-or-distrib-right}
 use mathlib.Core.List.{List, [], _∷_}
+use native.Mathlib.Omega.{arith}
+use native.Mathlib.Numerals.{add-one}
 use lib.IntN.{ℤ, pos, _+ℤ_}
 use lib.ListN.{length}
 use lib.Dec.{lit≤}
-use Rattle.counting.specs.Count.{each}
-use Rattle.refusal.specs.Refusal.{firstMet, unlessRefused, answer, given, refused}
+use Rattle.counting.specs.Count.{one, count, each}
+use Rattle.refusal.specs.Refusal.{firstMet, unlessRefused, answer, given, refused, isRefused}
 use Rattle.refusal.proofs.Conditions.{met, unmet, append-passed}
 use Rattle.raster.specs.Raster.{plus}
 use Rattle.raster.specs.Band.{inRows, rowsOf}
@@ -20,7 +22,7 @@ use Rattle.line.specs.Line.{onLine}
 use Rattle.line.specs.Drawing.{lineConditions}
 use Rattle.line.specs.declared.ends.Ends.{Ends}
 use Rattle.band.specs.Drawing.{bandOut, bandConditions, bandCount, bandRaster, bandAnswer, bandAfter}
-use Rattle.band.specs.Calls.{Band, afterBands, meets6, inBands, bandsOf}
+use Rattle.band.specs.Calls.{Band, afterBands, meets6, inBands, bandsOf, bandAt, bandList, refusedCalls}
 
 -- one call after others
 pub after-last : (e : Ends) (w : Window) (s : List ℕ) (n : ℕ) (f : ℕ → Band)
@@ -89,3 +91,63 @@ module _ (e : Ends) (w : Window) where
   pub bands-lawful : (s : List ℕ) → Lawful s → Shaped w (length s) → Bytes s → (bands : List Band) → Lawful (afterBands e w s bands)
   bands-lawful s h shape bytes bands =
       lawful-as s (afterBands e w s bands) (ap length (bands-after s h shape bytes bands) ∙ plus-length w s _) h
+
+-- ---- the calls one by one
+
+module _ (e : Ends) (w : Window) where
+  -- no call changes the raster's length
+  after-length : (s : List ℕ) (f n : ℕ) → length (bandAfter e w s f n) ≡ length s
+  unfolding bandRaster
+  after-length s f n = by (firstMet (bandConditions e w (length s) f n))
+    where
+      by : (m : ℕ) → length (unlessRefused m (plus w s (rowsOf w f n (onLine e))) s) ≡ length s
+      by zero = plus-length w s (rowsOf w f n (onLine e))
+      by (suc m) = refl
+
+  pub bands-length : (s : List ℕ) (bands : List Band) → length (afterBands e w s bands) ≡ length s
+  unfolding afterBands
+  bands-length s [] = refl
+  bands-length s (b ∷ bs) = bands-length (bandAfter e w s (b .first) (b .rows)) bs ∙ after-length s (b .first) (b .rows)
+
+pub one-most : (t : Bool) → one t ≤ 1
+one-most true = omega arith
+one-most false = omega arith
+
+-- the first k calls of a list of numbers are made
+pub record Called (e : Ends) (w : Window) (s list now : List ℕ) (refusals k : ℕ) : Type 0 where
+  pub raster-is : now ≡ afterBands e w s (each k (bandAt list))
+  pub refusals-is : refusals ≡ count k (λ i. isRefused (bandAnswer e w s (bandAt list i .first) (bandAt list i .rows)))
+  pub most : refusals ≤ k
+
+module _ (e : Ends) (w : Window) (s list : List ℕ) where
+  pub called-none : Called e w s list s 0 0
+  unfolding each afterBands count
+  called-none = record { raster-is = refl; refusals-is = refl; most = omega arith }
+
+  pub called-on : (now next : List ℕ) (refusals more k : ℕ) → Called e w s list now refusals k
+      → next ≡ bandAfter e w now (bandAt list k .first) (bandAt list k .rows)
+      → more ≡ one (isRefused (bandAnswer e w now (bandAt list k .first) (bandAt list k .rows)))
+      → Called e w s list next (refusals + more) (k + 1)
+  unfolding count
+  called-on now next refusals more k c p q =
+      let b : Band = bandAt list k in
+      let same : length now ≡ length s = ap length (c .raster-is) ∙ bands-length e w s (each k (bandAt list)) in
+      record {
+        raster-is =
+            rw (add-one k)
+            (p ∙ ap (λ (t : List ℕ). bandAfter e w t (b .first) (b .rows)) (c .raster-is) ∙ sym (after-last e w s k (bandAt list)));
+        refusals-is =
+            rw (add-one k)
+            (ap₂ _+_ (c .refusals-is)
+            (q ∙ ap (λ (n : ℕ). one (isRefused (answer (firstMet (bandConditions e w n (b .first) (b .rows))) (bandCount e w (b .first) (b .rows))))) same));
+        most = omega (arith, c .most, q, one-most (isRefused (bandAnswer e w now (b .first) (b .rows))));
+      }
+
+  -- all calls are made
+  pub called-all : (now : List ℕ) (refusals k : ℕ) → Called e w s list now refusals k → k ≡ length list / 2
+      → (refusals ≡ refusedCalls e w s list) × (now ≡ afterBands e w s (bandList list))
+  unfolding refusedCalls bandList
+  called-all now refusals k c p = (
+    c .refusals-is ∙ ap (λ (n : ℕ). count n (λ i. isRefused (bandAnswer e w s (bandAt list i .first) (bandAt list i .rows)))) p,
+    c .raster-is ∙ ap (λ (n : ℕ). afterBands e w s (each n (bandAt list))) p,
+  )
