@@ -32,7 +32,7 @@ fn toward(a: u32, b: u32, n: u32) -> u32
 
 // Marks the pixel in a column and a row of the raster, counted from 0.
 fn mark(column: u32, row: u32, bytes: usize, raster: &mut [u8])
-    requires { ⌜ (row ≤ 16) × (bytes ≤ 16) ⌝ }
+    requires { ⌜ bytes ≤ 1073741824 ⌝ }
 {
     let at = row as usize * bytes + column as usize / 8;
     if at < raster.len() {
@@ -42,13 +42,17 @@ fn mark(column: u32, row: u32, bytes: usize, raster: &mut [u8])
 
 // Marks the pixel of a column and a row of the frame and answers 1, or answers 0 where it is not in the window.
 fn mark_in(x: u32, y: u32, left: u32, top: u32, width: u32, height: u32, raster: &mut [u8]) -> u64
-    requires { ⌜ (left < 32768) × (top < 32768) × (width ≤ 16) × (height ≤ 16) ⌝ }
     ensures { λ r. ⌜ r ≤ 1 ⌝ }
 {
-    if x < left || left + width <= x || y < top || top + height <= y {
+    if x < left || y < top {
         return 0;
     }
-    mark(x - left, y - top, (width as usize + 7) / 8, raster);
+    let column = x - left;
+    let row = y - top;
+    if width <= column || height <= row {
+        return 0;
+    }
+    mark(column, row, (width as usize + 7) / 8, raster);
     1
 }
 
@@ -87,7 +91,6 @@ pub fn draw(
     raster: &mut [u8],
 ) -> u64
     requires { ⌜ (x0 < 32768) × (y0 < 32768) × (x1 < 32768) × (y1 < 32768) ⌝ }
-    requires { ⌜ (left < 32768) × (top < 32768) × (width ≤ 16) × (height ≤ 16) ⌝ }
 {
     let dx = apart(x0, x1);
     let dy = apart(y0, y1);

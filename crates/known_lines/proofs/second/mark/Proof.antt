@@ -1,4 +1,4 @@
--- The place is small.
+-- The place fits 64 bits.
 use Prim.Native.Nat.{_*_, _≤_}
 use native.Mathlib.Omega.{arith}
 use native.Mathlib.Nat.{mul-le-mul}
@@ -6,8 +6,8 @@ use borrow.Author.Needs.{needs}
 use Rattle.known_lines.proofs.second.mark.Statement.{statement}
 use Rattle.known_lines.proofs.second.mark.Tie as tie
 
-product : (c : tie.Start) → c .args .row * c .args .bytes ≤ 256
-product c = mul-le-mul {n₁ = c .args .row} {m₁ = c .args .bytes} {n₂ = 16} {m₂ = 16} (omega arith) (omega arith)
+product : (c : tie.Start) → c .args .row * c .args .bytes ≤ 4611686018427387904
+product c = mul-le-mul {n₁ = c .args .row} {m₁ = c .args .bytes} {n₂ = 4294967296} {m₂ = 1073741824} (omega arith) (omega arith)
 
 mul-at : tie.Need-mul-at
 mul-at c = record { fits = omega (arith, product c) }

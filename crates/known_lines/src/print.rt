@@ -1,0 +1,56 @@
+// Printing numbers and windows.
+use coordinate::Coordinate;
+use libc::STDOUT_FILENO;
+use raster::window::Window;
+
+// Coordinate 0, counted from the lowest coordinate.
+const ZERO: u32 = 16384;
+
+pub fn print(text: &[u8]) {
+    io::write_all(STDOUT_FILENO, text);
+}
+
+// Prints a text, then a number.
+pub fn print_number(text: &[u8], n: u64) {
+    io::write_all(STDOUT_FILENO, text);
+    io::print_decimal(STDOUT_FILENO, n);
+}
+
+// Prints a text, then a number with its sign, or `?` where it is not in the coordinate range, in which each number here is.
+pub fn print_signed(text: &[u8], z: i32) {
+    print(text);
+    if Coordinate::out_of_range(z) {
+        print(b"?");
+        return;
+    }
+    let n = Coordinate::biased(z);
+    if n < ZERO {
+        print_number(b"-", (ZERO - n) as u64);
+    } else {
+        print_number(b"", (n - ZERO) as u64);
+    }
+}
+
+// Prints a pixel by its column and row.
+pub fn print_pixel(column: i32, row: i32) {
+    print_signed(b"(", column);
+    print_signed(b",", row);
+    print(b")");
+}
+
+// Prints where and how large a window is.
+pub fn print_window(window: Window) {
+    print_signed(b" in left ", window.left);
+    print_signed(b", top ", window.top);
+    print_number(b", width ", window.width as u64);
+    print_number(b", height ", window.height as u64);
+    print(b": ");
+}
+
+// Ends a printed line, with `differ` where the drawers do.
+pub fn print_end(alike: bool) {
+    if !alike {
+        print(b" differ");
+    }
+    print(b"\n");
+}
