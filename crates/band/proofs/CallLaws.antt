@@ -2,7 +2,7 @@
 -- the raster is the start plus the line's pixels in the accepted rows.
 use Prim.Native.Nat.{ℕ, zero, suc, _+_, _/_, _≤_}
 use mathlib.Core.Path.{_≡_, refl, sym, ap, ap₂, _∙_}
-use mathlib.Core.Bool.{Bool, true, false, cond, not, _&&_, _||_, and-or-distrib-right}
+use mathlib.Core.Bool.{Bool, true, false, cond, not, _&&_, and-or-distrib-right}
 use mathlib.Core.List.{List, [], _∷_}
 use native.Mathlib.Omega.{arith}
 use native.Mathlib.Numerals.{add-one}
@@ -11,7 +11,7 @@ use lib.ListN.{length}
 use lib.Dec.{lit≤}
 use Rattle.counting.specs.Count.{one, count, each}
 use Rattle.refusal.specs.Refusal.{firstMet, unlessRefused, answer, given, refused, isRefused}
-use Rattle.refusal.proofs.Conditions.{met, unmet, append-passed}
+use Rattle.refusal.proofs.Conditions.{append-passed}
 use Rattle.raster.specs.Raster.{plus}
 use Rattle.raster.specs.Band.{inRows, rowsOf}
 use Rattle.raster.specs.declared.window.Window.{Window}
@@ -21,7 +21,7 @@ use Rattle.raster.proofs.Plus.{plus-length, plus-bytes, plus-plus, plus-cong, p
 use Rattle.line.specs.Line.{onLine}
 use Rattle.line.specs.Drawing.{lineConditions}
 use Rattle.line.specs.declared.ends.Ends.{Ends}
-use Rattle.band.specs.Drawing.{bandOut, bandConditions, bandCount, bandRaster, bandAnswer, bandAfter}
+use Rattle.band.specs.Drawing.{bandConditions, bandCount, bandRaster, bandAnswer, bandAfter}
 use Rattle.band.specs.Calls.{Band, afterBands, meets6, inBands, bandsOf, bandAt, bandList, refusedCalls}
 
 -- one call after others

@@ -1,6 +1,6 @@
 -- The equal-raster rule: painting and the bands both leave the start plus pixels of the line, all of them where the bands
 -- take in every row.
-use Prim.Native.Nat.{ℕ, _+_, _*_}
+use Prim.Native.Nat.{ℕ, _+_}
 use mathlib.Core.Path.{_≡_, refl, sym, ap, _∙_}
 use mathlib.Core.Bool.{Bool, _&&_}
 use mathlib.Core.List.{List}
@@ -23,7 +23,7 @@ use Rattle.line.specs.declared.ends.Ends.{Ends}
 use Rattle.line.proofs.Pixels.{short-le, rounding}
 use Rattle.line.proofs.RunPixels.{lengths}
 use Rattle.line.proofs.RunFacts.{runs-are-line, listed-and-painted}
-use Rattle.band.specs.Calls.{Band, afterBands, bandsOf, EveryRow}
+use Rattle.band.specs.Calls.{Band, afterBands, EveryRow}
 use Rattle.band.specs.EqualRaster.{EqualRaster}
 use Rattle.band.proofs.CallLaws.{call-answer, bands-after, bands-lawful}
 

@@ -1,16 +1,14 @@
 -- A band that meets no condition lies in the window; the window of its rows, with their part of the raster, meets none either.
 use Prim.Native.Nat.{ℕ, _+_, _*_, _≤_, _<_}
 use mathlib.Core.Path.{_≡_, refl, _∙_}
-use mathlib.Core.Bool.{Bool, false}
-use mathlib.Core.List.{List, [], _∷_}
+use mathlib.Core.Bool.{false}
+use mathlib.Core.List.{[], _∷_}
 use native.Mathlib.Omega.{arith}
 use native.Mathlib.Nat.{mul-le-mul-right}
-use lib.IntN.{ℤ, pos, _+ℤ_}
-use lib.ListN.{length}
 use lib.Dec.{ltb, eqb, lit≤}
 use borrow.Author.Tests.{ltb-false, eqb-false}
 use Rattle.counting.proofs.Boolean.{or-neither}
-use Rattle.coordinate.specs.Coordinate.{outOfRange, biased}
+use Rattle.coordinate.specs.Coordinate.{biased}
 use Rattle.coordinate.proofs.Bias.{shifted-in, biased-shifted}
 use Rattle.refusal.specs.Refusal.{firstMet}
 use Rattle.refusal.proofs.Conditions.{none-met, unmet, append-none}

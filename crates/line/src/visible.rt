@@ -6,7 +6,7 @@ use coordinate::less;
 use interpolation::first_step;
 use raster::window::Window;
 ghost use mathlib.Core.Path.{_≡_};
-ghost use Prim.Native.Nat.{_+_, _-_, _≤_, _<_, min, max};
+ghost use Prim.Native.Nat.{_+_, _≤_, _<_, min, max};
 ghost use Rattle.interpolation.specs.Interpolation.{Rounding};
 ghost use Rattle.refusal.specs.Refusal.{firstMet};
 ghost use Rattle.raster.specs.Window.{windowConditions};

@@ -17,11 +17,11 @@ use Rattle.counting.proofs.Boolean.{tell, bool-iff}
 use Rattle.counting.proofs.Each.{each-cong}
 use Rattle.coordinate.specs.Coordinate.{along}
 use Rattle.coordinate.specs.declared.Axis.{Axis}
-use Rattle.refusal.specs.Refusal.{turnedAway, answer, unlessRefused, numberOf, number, firstMet}
+use Rattle.refusal.specs.Refusal.{answer, unlessRefused, numberOf, number, firstMet}
 use Rattle.refusal.specs.declared.Refusal.{Refusal}
 use Rattle.refusal.specs.declared.Refusal.the-variants.{Ends as BadEnds, Size, Place, RasterLength, ListLength, Rows, RunCount, Run as BadRun, Input}
 use Rattle.refusal.proofs.Conditions.{none-met}
-use Rattle.refusal.proofs.Handing.{number-answer}
+use Rattle.refusal.proofs.Handing.{number-is, number-answer}
 use Rattle.runs.specs.Painting.{runAt, runBad}
 use Rattle.line.specs.Line.{short, axis, endsOut}
 use Rattle.line.specs.Runs.{run, runs}
@@ -66,17 +66,6 @@ module _ (letter n : ℕ) (few : n ≤ 5000) (entry : List ℕ) (room : 110000 �
       wrote-both (axisText letter n) (runLines (each n (runAt list))) (omega arith) w v
 
 -- ---- what an answer says of the number that it goes by
-
-number-is : (A : Type 0) (r : Refusal) → numberOf (turnedAway {A = A} r) ≡ number r
-number-is A BadEnds = refl
-number-is A Size = refl
-number-is A Place = refl
-number-is A RasterLength = refl
-number-is A ListLength = refl
-number-is A Rows = refl
-number-is A RunCount = refl
-number-is A (BadRun place) = refl
-number-is A Input = refl
 
 pub number-small : (r : Refusal) → (1 ≤ number r) × (number r < 10)
 number-small BadEnds = (omega arith, omega arith)

@@ -10,17 +10,16 @@ use line::list::Listed;
 use line::list::Listing;
 use line::list::list_runs;
 ghost use mathlib.Core.Path.{_≡_};
-ghost use mathlib.Core.Bool.{false, cond};
+ghost use mathlib.Core.Bool.{false};
 ghost use mathlib.Core.List.{_++_};
-ghost use Prim.Native.Nat.{ℕ, _+_, _*_, _≤_, _<_};
+ghost use Prim.Native.Nat.{ℕ, _*_, _≤_, _<_};
 ghost use lib.ListN.{length};
-ghost use lib.Dec.{ltb};
 ghost use Rattle.counting.specs.Count.{each};
 ghost use Rattle.coordinate.specs.Coordinate.{along};
 ghost use Rattle.refusal.specs.Refusal.{firstMet};
 ghost use Rattle.runs.specs.Painting.{runAt, runBad};
-ghost use Rattle.lineruns_text.specs.Writing.{axisText, runLines, printConditions, told, printed};
-ghost use Rattle.lineruns_text.specs.Written.{written, Wrote};
+ghost use Rattle.lineruns_text.specs.Writing.{axisText, runLines, printConditions, told};
+ghost use Rattle.lineruns_text.specs.Written.{Wrote, printLength, printAfter};
 
 // The axis's letter.
 fn letter(axis: Axis) -> u8
@@ -57,8 +56,8 @@ fn answer_line(ends: Ends, output: &mut [u8]) -> usize
 // Writes what `lineruns` prints for its input, and answers its length. An output shorter than 110000 bytes is left as it is,
 // and the answer is 0; every printed text is shorter than that.
 pub fn answer(input: &[u8], output: &mut [u8]) -> usize
-    ensures { λ r. ⌜ r ≡ cond (ltb (length (now (output .entry))) 110000) 0 (length (printed (now (input .entry)))) ⌝ }
-    ensures { λ _. ⌜ now (output .exit) ≡ cond (ltb (length (now (output .entry))) 110000) (now (output .entry)) (written 0 (printed (now (input .entry))) (now (output .entry))) ⌝ }
+    ensures { λ r. ⌜ r ≡ printLength (now (input .entry)) (now (output .entry)) ⌝ }
+    ensures { λ _. ⌜ now (output .exit) ≡ printAfter (now (input .entry)) (now (output .entry)) ⌝ }
 {
     if output.len() < 110000 {
         return 0;

@@ -17,7 +17,7 @@ fn write_byte(byte: u8, at: usize, output: &mut [u8]) -> usize
 }
 
 // Writes the bytes of a text.
-pub fn write_bytes(text: &[u8], at: usize, output: &mut [u8]) -> usize
+fn write_bytes(text: &[u8], at: usize, output: &mut [u8]) -> usize
     requires { ⌜ at + length (now text) ≤ length (now output) ⌝ }
     ensures { λ r. ⌜ Wrote at (now (text .entry)) (now (output .entry)) (now (output .exit)) r ⌝ }
 {
@@ -58,7 +58,7 @@ fn write_digits(n: u64, at: usize, end: usize, output: &mut [u8])
 }
 
 // Writes a number in decimal, without leading zeros.
-pub fn write_decimal(n: u64, at: usize, output: &mut [u8]) -> usize
+fn write_decimal(n: u64, at: usize, output: &mut [u8]) -> usize
     requires { ⌜ at + length (decimal n) ≤ length (now output) ⌝ }
     ensures { λ r. ⌜ Wrote at (decimal n) (now (output .entry)) (now (output .exit)) r ⌝ }
 {
@@ -79,7 +79,7 @@ fn magnitude(z: i32) -> u64
 }
 
 // Writes a number in decimal, with a minus where it is below 0.
-pub fn write_signed(z: i32, at: usize, output: &mut [u8]) -> usize
+fn write_signed(z: i32, at: usize, output: &mut [u8]) -> usize
     requires { ⌜ at + length (signed z) ≤ length (now output) ⌝ }
     ensures { λ r. ⌜ Wrote at (signed z) (now (output .entry)) (now (output .exit)) r ⌝ }
 {

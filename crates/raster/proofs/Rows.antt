@@ -1,5 +1,5 @@
 -- The row view by cases: a refused frame or row has the empty part, and a lawful row has all its bytes.
-use Prim.Native.Nat.{ℕ, _*_, _≤_, _<_}
+use Prim.Native.Nat.{ℕ, _+_, _*_, _≤_, _<_}
 use mathlib.Core.Path.{_≡_, refl, sym, ap, _∙_}
 use mathlib.Core.Bool.{Bool}
 use mathlib.Core.List.{List, [], _∷_}
@@ -16,7 +16,7 @@ use Rattle.raster.specs.Raster.{rowBytes}
 use Rattle.raster.specs.Window.{frameConditions}
 use Rattle.raster.specs.Row.{rowOut, rowConditions, rowView}
 use Rattle.raster.specs.declared.window.Window.{Window}
-use Rattle.raster.proofs.Frames.{frame, row-within}
+use Rattle.raster.proofs.Frames.{frame, row-within, raster-max}
 
 module _ (w : Window) (s : List ℕ) (row : ℕ) where
   abbrev bytes : List ℕ
@@ -56,3 +56,11 @@ module _ (w : Window) (s : List ℕ) (row : ℕ) where
       let long : length bytes ≡ rowBytes (w .width) = length-take-le (rowBytes (w .width)) (drop (row * rowBytes (w .width)) s) (omega arith) in
       let same : length (rowView w s row) ≡ rowBytes (w .width) = ap length (sym (view-given (p .0) l)) ∙ long in
       (same, omega arith)
+
+  -- its bytes end within a raster, which is small
+  pub row-bytes-in : firstMet (rowConditions w (length s) row) ≡ 0 → row * rowBytes (w .width) + rowBytes (w .width) ≤ 8388608
+  row-bytes-in e =
+      let p = append-none (frameConditions w (length s)) rest (lit≤ tt, (lit≤ tt, (lit≤ tt, tt))) e in
+      let l : row < w .height = ltb-true row (w .height) (not-false (ltb row (w .height)) (none-met 5 (rowOut w row) [] (p .1) .0)) in
+      let f = frame w (length s) (p .0) in
+      omega (arith, row-within w (length s) row (f .shape) l, raster-max w (length s) f)

@@ -4,11 +4,12 @@ use mathlib.Core.Path.{_≡_}
 use mathlib.Core.List.{List}
 use mathlib.Core.Option.{Option, none, some}
 use lib.IntN.{ℤ, pos, _+ℤ_}
-use lib.ListN.{getD}
+use lib.ListN.{length, getD}
 use Rattle.counting.specs.Count.{first}
 use Rattle.coordinate.specs.declared.Pixel.{Pixel}
-use Rattle.refusal.specs.Refusal.{Answer, given, turnedAway}
+use Rattle.refusal.specs.Refusal.{Answer, given, turnedAway, answer, firstMet}
 use Rattle.raster.specs.Raster.{marked}
+use Rattle.raster.specs.Window.{frameConditions}
 use Rattle.raster.specs.declared.window.Window.{Window}
 use Rattle.raster.specs.declared.search.Cell.{Cell}
 use Rattle.raster.specs.declared.search.Cell.the-variants.{At as CellAt, Nothing as NoCell}
@@ -32,6 +33,10 @@ unfoldable pub firstMarked : Window → List ℕ → Option Pixel
 unfolding marked
 firstMarked w s = placed w (firstNumber w s)
 
+-- what the search answers to a window and a raster
+abbrev pub searchAnswer : Window → List ℕ → Answer (Option Pixel)
+searchAnswer w s = answer (firstMet (frameConditions w (length s))) (firstMarked w s)
+
 -- a number in that order as a cell
 abbrev pub cellOf : ℕ → Option ℕ → Cell
 cellOf width none = NoCell
@@ -41,7 +46,7 @@ cellOf width (some k) = CellAt (k % width) (k / width)
 abbrev pub Zeros : List ℕ → ℕ → ℕ → Type 0
 Zeros s a z = (i : ℕ) → a ≤ i → i < z → getD s i 0 ≡ 0
 
--- what the search answers, in the paper's terms
+-- the search's answer in the paper's terms
 abbrev pub found : Found → Answer (Option Pixel)
 found (At p) = given (some p)
 found Nothing = given none

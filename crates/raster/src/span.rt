@@ -24,7 +24,7 @@ fn or_byte(i: usize, bits: u8, raster: &mut [u8])
 }
 
 // Sets the bits from `a` up to, but without, `z`: a part of a byte, whole bytes, a part of a byte.
-pub fn fill_bits(a: usize, z: usize, raster: &mut [u8])
+fn fill_bits(a: usize, z: usize, raster: &mut [u8])
     requires { ⌜ (a < z) × (z ≤ 8 * length (now raster)) ⌝ }
     ensures { λ _. ⌜ now (raster .exit) ≡ withBits (between a z) (now (raster .entry)) ⌝ }
 {

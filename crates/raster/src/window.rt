@@ -9,6 +9,7 @@ ghost use Rattle.raster.specs.Raster.{rowBytes};
 ghost use Rattle.raster.specs.Window.{sideOut, sizeOut, sidePlaceOut, placeOut, lengthOff, windowConditions, frameConditions, windowOf, made};
 
 // The part of the frame that a raster shows: its first column and row, and its width and height in pixels.
+#[repr(C)]
 pub struct Window {
     pub left: i32,
     pub top: i32,

@@ -3,8 +3,9 @@ use Prim.Native.Nat.{ℕ, zero, suc}
 use mathlib.Core.Bool.{Bool, true}
 use mathlib.Core.List.{List, _++_}
 use mathlib.Core.Path.{_≡_, refl, sym, ap, _∙_}
+use mathlib.Core.Logic.{_⊎_, inl, inr}
 use native.Mathlib.Omega.{arith}
-use Rattle.refusal.specs.Refusal.{Answer, given, refused, refusedAt, turnedAway, answer, unlessRefused, numberOf, isRefused, checked, firstMet}
+use Rattle.refusal.specs.Refusal.{Answer, given, refused, refusedAt, turnedAway, answer, unlessRefused, numberOf, number, place, isRefused, checked, firstMet}
 use Rattle.refusal.specs.declared.Refusal.{Refusal}
 use Rattle.refusal.specs.declared.Refusal.the-variants.{Ends, Size, Place, RasterLength, ListLength, Rows, RunCount, Run, Input}
 use Rattle.refusal.specs.declared.Check.{Check}
@@ -57,6 +58,27 @@ turned-refused A Rows = refl
 turned-refused A RunCount = refl
 turned-refused A (Run place) = refl
 turned-refused A Input = refl
+
+-- a refusal's answer is its number, with the place where it has one
+pub turned-is : (A : Type 0) (r : Refusal)
+    → ((turnedAway {A = A} r ≡ refused (number r)) × (place r ≡ 0)) ⊎ (turnedAway {A = A} r ≡ refusedAt (number r) (place r))
+turned-is A Ends = inl (refl, refl)
+turned-is A Size = inl (refl, refl)
+turned-is A Place = inl (refl, refl)
+turned-is A RasterLength = inl (refl, refl)
+turned-is A ListLength = inl (refl, refl)
+turned-is A Rows = inl (refl, refl)
+turned-is A RunCount = inl (refl, refl)
+turned-is A (Run at) = inr refl
+turned-is A Input = inl (refl, refl)
+
+pub number-is : (A : Type 0) (r : Refusal) → numberOf (turnedAway {A = A} r) ≡ number r
+number-is A r = go (turned-is A r)
+  where
+    go : ((turnedAway {A = A} r ≡ refused (number r)) × (place r ≡ 0)) ⊎ (turnedAway {A = A} r ≡ refusedAt (number r) (place r))
+        → numberOf (turnedAway {A = A} r) ≡ number r
+    go (inl q) = ap numberOf (q .0)
+    go (inr q) = ap numberOf q
 
 -- what a check's answer says of the number that it tested
 module _ (check : Check) (n : ℕ) (told : checked check ≡ answer n tt) where

@@ -39,6 +39,15 @@ numberOf (refusedAt n place) = n
 abbrev pub number : Refusal → ℕ
 number r = numberOf (turnedAway {A = Unit} r)
 
+-- the place that an answer gives, 0 where it gives none
+abbrev pub placeOf : {A : Type 0} → Answer A → ℕ
+placeOf (given a) = 0
+placeOf (refused n) = 0
+placeOf (refusedAt n place) = place
+
+abbrev pub place : Refusal → ℕ
+place r = placeOf (turnedAway {A = Unit} r)
+
 -- an answer is a refusal
 abbrev pub isRefused : {A : Type 0} → Answer A → Bool
 isRefused (given a) = false

@@ -1,6 +1,6 @@
 // Why an operation turns its arguments away: document 01's list of refusals, and what a test of them answers.
 ghost use mathlib.Core.Path.{_≡_};
-ghost use Rattle.refusal.specs.Refusal.{number};
+ghost use Rattle.refusal.specs.Refusal.{number, place};
 
 // Document 01's refusals, in the order of their numbers.
 pub enum Refusal {
@@ -39,6 +39,23 @@ impl Refusal {
             Refusal::RunCount => 7,
             Refusal::Run(_) => 8,
             Refusal::Input => 9,
+        }
+    }
+
+    // The place of the bad run, 0 for any other refusal.
+    pub fn place(self) -> u32
+        ensures { λ r. ⌜ r ≡ place self ⌝ }
+    {
+        match self {
+            Refusal::Ends => 0,
+            Refusal::Size => 0,
+            Refusal::Place => 0,
+            Refusal::RasterLength => 0,
+            Refusal::ListLength => 0,
+            Refusal::Rows => 0,
+            Refusal::RunCount => 0,
+            Refusal::Run(place) => place,
+            Refusal::Input => 0,
         }
     }
 }

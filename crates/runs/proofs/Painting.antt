@@ -1,14 +1,14 @@
 -- The painter run by run: the first bad one is found, what is left of each is filled and counted, and the loop adds them up.
-use Prim.Native.Nat.{ℕ, zero, suc, _+_, _≤_, _<_}
+use Prim.Native.Nat.{ℕ, _+_, _≤_, _<_}
 use mathlib.Core.Path.{_≡_, refl, sym, ap, ap₂, _∙_}
-use mathlib.Core.Bool.{Bool, true, false, cond, _||_}
+use mathlib.Core.Bool.{Bool, true, false}
 use mathlib.Core.List.{List}
 use mathlib.Core.Option.{none, some}
 use native.Mathlib.Omega.{arith}
 use native.Mathlib.Numerals.{add-one}
 use lib.IntN.{ℤ, pos, _+ℤ_}
 use lib.ListN.{length}
-use Rattle.counting.specs.Count.{any, sum, first}
+use Rattle.counting.specs.Count.{any, sum}
 use Rattle.counting.proofs.Boolean.{clash, never}
 use Rattle.counting.proofs.Any.{any-make, any-none}
 use Rattle.counting.proofs.First.{first-none, first-at, none-any}

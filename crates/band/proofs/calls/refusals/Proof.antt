@@ -2,7 +2,6 @@
 use borrow.Author.Needs.{needs}
 use Prim.Native.Nat.{ℕ}
 use mathlib.Core.Path.{sym, ap, _∙_}
-use mathlib.Core.Bool.{Bool}
 use Rattle.counting.specs.Count.{one}
 use Rattle.refusal.specs.Refusal.{isRefused}
 use Rattle.refusal.proofs.Handing.{turned-refused}

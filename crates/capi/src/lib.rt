@@ -1,0 +1,6 @@
+// The C interface: what programs in other languages link. include/tuffcotton.h declares it.
+pub mod answers;
+pub mod draw;
+pub mod frame;
+pub mod run_list;
+pub mod text;
