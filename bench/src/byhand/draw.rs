@@ -1,0 +1,117 @@
+//! Bresenham's line. A drawer checks its line once and then indexes the raster untested, as a loop in C does. The rounding
+//! is the library's: halves go away from the first end.
+use super::line::Line;
+use crate::c::{Ends, Window};
+
+/// Marks the bit `bit` of the raster.
+///
+/// # Safety
+/// The raster has a bit `bit`.
+#[inline(always)]
+unsafe fn mark(raster: &mut [u8], bit: usize) {
+    *raster.get_unchecked_mut(bit / 8) |= 128 >> (bit % 8);
+}
+
+fn holds(window: Window, x: i32, y: i32) -> bool {
+    let column = x.wrapping_sub(window.left) as u32;
+    let row = y.wrapping_sub(window.top) as u32;
+    column < window.width && row < window.height
+}
+
+/// Both ends of the line lie in the window, and so do all its pixels.
+fn check_inside(ends: Ends, window: Window, raster: &[u8]) {
+    assert_eq!(raster.len(), window.raster_bytes());
+    assert!(holds(window, ends.x0, ends.y0) && holds(window, ends.x1, ends.y1));
+}
+
+/// Bresenham's loop over a bit index, without window tests. Each arm is a whole sum: with a sum that the arms share the
+/// compiler makes selects of the branch, and the loop takes half as long again.
+pub fn draw_by_bits(ends: Ends, window: Window, raster: &mut [u8]) -> u64 {
+    check_inside(ends, window, raster);
+    let Line { long, short, steep } = Line::of(ends);
+    let row_bits = 8 * window.row_bytes();
+    let (right, left) = if ends.x0 < ends.x1 { (1, 0) } else { (0, 1) };
+    let (down, up) = if ends.y0 < ends.y1 {
+        (row_bits, 0)
+    } else {
+        (0, row_bits)
+    };
+    let (flat_on, flat_back) = if steep { (down, up) } else { (right, left) };
+    let (diagonal_on, diagonal_back) = (right + down, left + up);
+    let column = (ends.x0 - window.left) as usize;
+    let row = (ends.y0 - window.top) as usize;
+    let mut bit = row * row_bits + column;
+    let mut rest = long;
+    let twice = 2 * short;
+    let turn = 2 * long - twice;
+    let mut step = 0;
+    loop {
+        // SAFETY: every pixel of the line lies in the window.
+        unsafe { mark(raster, bit) };
+        if step == long {
+            return u64::from(long) + 1;
+        }
+        if turn <= rest {
+            bit = bit + diagonal_on - diagonal_back;
+            rest -= turn;
+        } else {
+            bit = bit + flat_on - flat_back;
+            rest += twice;
+        }
+        step += 1;
+    }
+}
+
+/// Calls `put` with column and row, counted from left and top, of each pixel: Bresenham's loop as it is mostly written.
+#[inline(always)]
+fn each_pixel(ends: Ends, window: Window, mut put: impl FnMut(i32, i32)) {
+    let Line { long, short, steep } = Line::of(ends);
+    let (right, down) = ((ends.x1 - ends.x0).signum(), (ends.y1 - ends.y0).signum());
+    let (mut column, mut row) = (ends.x0 - window.left, ends.y0 - window.top);
+    let mut rest = long;
+    for _ in 0..=long {
+        put(column, row);
+        rest += 2 * short;
+        if steep {
+            row += down;
+        } else {
+            column += right;
+        }
+        if rest >= 2 * long {
+            rest -= 2 * long;
+            if steep {
+                column += right;
+            } else {
+                row += down;
+            }
+        }
+    }
+}
+
+/// Bresenham's loop over column and row, without window tests.
+pub fn draw_by_pixels(ends: Ends, window: Window, raster: &mut [u8]) -> u64 {
+    check_inside(ends, window, raster);
+    let row_bits = 8 * window.row_bytes();
+    let mut count = 0;
+    each_pixel(ends, window, |column, row| {
+        // SAFETY: every pixel of the line lies in the window.
+        unsafe { mark(raster, row as usize * row_bits + column as usize) };
+        count += 1;
+    });
+    count
+}
+
+/// Bresenham's loop over column and row, with a window test at each pixel.
+pub fn draw_tested(ends: Ends, window: Window, raster: &mut [u8]) -> u64 {
+    assert_eq!(raster.len(), window.raster_bytes());
+    let row_bits = 8 * window.row_bytes();
+    let mut count = 0;
+    each_pixel(ends, window, |column, row| {
+        if (column as u32) < window.width && (row as u32) < window.height {
+            // SAFETY: the pixel lies in the window.
+            unsafe { mark(raster, row as usize * row_bits + column as usize) };
+            count += 1;
+        }
+    });
+    count
+}
