@@ -1,0 +1,83 @@
+//! How the C interface states document 01's answers.
+use crate::c::{Drawn, Found, Listed, Part};
+use paper::frame::Pixel;
+use paper::line::Axis;
+use paper::refusal::Refusal;
+use paper::runs::Listing;
+use std::ops::Range;
+
+/// The axis that a number names: 0 is x, any other is y.
+pub fn axis_named(number: u32) -> Axis {
+    if number == 0 {
+        Axis::X
+    } else {
+        Axis::Y
+    }
+}
+
+/// The number that the lister names an axis by.
+pub fn axis_number(axis: Axis) -> u32 {
+    match axis {
+        Axis::X => 0,
+        Axis::Y => 1,
+    }
+}
+
+/// The number of a check's refusal, 0 where there is none.
+pub fn number(check: Result<(), Refusal>) -> u32 {
+    check.err().map_or(0, |refusal| refusal.number)
+}
+
+impl From<Result<u64, Refusal>> for Drawn {
+    fn from(answer: Result<u64, Refusal>) -> Drawn {
+        let (refused, place, count) = match answer {
+            Ok(count) => (0, 0, count),
+            Err(refusal) => (refusal.number, refusal.place, 0),
+        };
+        Drawn {
+            refused,
+            place,
+            count,
+        }
+    }
+}
+
+impl From<Result<Listing, Refusal>> for Listed {
+    fn from(answer: Result<Listing, Refusal>) -> Listed {
+        let (refused, axis, runs) = match answer {
+            Ok(listing) => (0, axis_number(listing.axis), listing.runs),
+            Err(refusal) => (refusal.number, 0, 0),
+        };
+        Listed {
+            refused,
+            axis,
+            runs,
+        }
+    }
+}
+
+impl From<Result<Option<Pixel>, Refusal>> for Found {
+    fn from(answer: Result<Option<Pixel>, Refusal>) -> Found {
+        let (refused, found, column, row) = match answer {
+            Ok(Some(pixel)) => (0, 1, pixel.column, pixel.row),
+            Ok(None) => (0, 0, 0, 0),
+            Err(refusal) => (refusal.number, 0, 0, 0),
+        };
+        Found {
+            refused,
+            found,
+            column,
+            row,
+        }
+    }
+}
+
+impl From<Option<Range<usize>>> for Part {
+    fn from(view: Option<Range<usize>>) -> Part {
+        let view = view.unwrap_or(0..0);
+        Part {
+            place: view.start,
+            len: view.len(),
+        }
+    }
+}

@@ -1,0 +1,57 @@
+//! Compares every function of the library's C interface with a second implementation, written from document 01's definitions.
+//! A seed can be given as the argument. Prints a line for each part, with the first case that differs in full, and last how
+//! many cases there are and how many differ; ends in 1 where one does.
+#![deny(unsafe_code)]
+
+mod answers;
+mod bench;
+mod buffer;
+mod c;
+mod make;
+mod parts;
+mod random;
+mod report;
+
+use bench::Bench;
+use random::Random;
+use std::process::ExitCode;
+use std::time::Instant;
+
+const SEED: u64 = 1;
+
+type Run = fn(&mut Bench, &mut Random);
+
+const PARTS: [(&str, Run); 12] = [
+    ("all lines of a small square", parts::square::run),
+    ("random lines", parts::lines::run),
+    ("hostile windows and rasters", parts::hostile::windows::run),
+    ("hostile ends", parts::hostile::ends::run),
+    ("hostile bands", parts::hostile::bands::run),
+    ("hostile run lists", parts::hostile::lists::run),
+    ("hostile and lawful mixed", parts::hostile::mixed::run),
+    ("largest frames", parts::largest::run),
+    ("lists of bands", parts::bands::run),
+    ("random run lists", parts::stored::run),
+    ("rows and search", parts::rows::run),
+    ("lineruns", parts::texts::run),
+];
+
+fn main() -> ExitCode {
+    let seed = match std::env::args().nth(1) {
+        Some(text) => text.parse().expect("the seed is a number"),
+        None => SEED,
+    };
+    println!("seed {seed}");
+    let mut bench = Bench::new();
+    let (mut cases, mut differ) = (0, 0);
+    for (name, run) in PARTS {
+        let begun = Instant::now();
+        // Each part has its own sequence, so that a part's numbers can be changed without changing the others' cases.
+        run(&mut bench, &mut Random::new(seed));
+        let (more, wrong) = bench.report.close(name, begun.elapsed().as_secs_f64());
+        cases += more;
+        differ += wrong;
+    }
+    println!("{cases} cases, {differ} differ");
+    ExitCode::from(u8::from(differ > 0))
+}

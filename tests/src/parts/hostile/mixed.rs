@@ -1,0 +1,62 @@
+//! Each argument lawful or hostile by itself, so that conditions are met in every combination.
+use super::{bytes, everything, raster_lengths, ENDS, ROWS, SIDES};
+use crate::bench::Bench;
+use crate::random::Random;
+use paper::draw::Band;
+use paper::frame::{ends, window, Window};
+use paper::line::Line;
+
+const CASES: u32 = 400_000;
+
+/// A number near 0; one in `rarity` is hostile.
+fn place(random: &mut Random, rarity: u32) -> i32 {
+    if random.one_in(rarity) {
+        random.pick(&ENDS)
+    } else {
+        random.between(-12, 12)
+    }
+}
+
+fn side(random: &mut Random) -> u32 {
+    if random.one_in(6) {
+        random.pick(&SIDES)
+    } else {
+        1 + random.below(20)
+    }
+}
+
+fn band(random: &mut Random, window: Window) -> Band {
+    let mut number = |below: u32| {
+        if random.one_in(4) {
+            random.pick(&ROWS)
+        } else {
+            random.below(below)
+        }
+    };
+    Band {
+        first: number(window.height.clamp(1, 20)),
+        rows: number(6),
+    }
+}
+
+/// Mostly the right length.
+fn raster_len(random: &mut Random, window: Window) -> usize {
+    let lengths = raster_lengths(window);
+    if random.one_in(4) {
+        random.pick(&lengths)
+    } else {
+        lengths[2]
+    }
+}
+
+pub fn run(bench: &mut Bench, random: &mut Random) {
+    for _ in 0..CASES {
+        let mut end = || place(random, 12);
+        let line = Line::new(ends(end(), end(), end(), end()));
+        let (left, top) = (place(random, 6), place(random, 6));
+        let window = window(left, top, side(random), side(random));
+        let len = raster_len(random, window);
+        let start = bytes(random, len);
+        everything(bench, &line, window, &start, band(random, window));
+    }
+}

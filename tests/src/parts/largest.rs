@@ -1,0 +1,81 @@
+//! Frames and sums of the largest sizes.
+use crate::bench::{Bench, Drawer, Stored};
+use crate::c;
+use crate::make::{raster, set_padding};
+use crate::random::Random;
+use paper::draw::Band;
+use paper::frame::{ends, window, Ends, Window};
+use paper::line::Line;
+
+const SIDE: u32 = 8192;
+
+/// Lines over the whole range: diagonal both ways, flat, steep, and with S the half of L.
+const ENDS: [Ends; 5] = [
+    ends(-16384, -16384, 16383, 16383),
+    ends(16383, -16384, -16384, 16383),
+    ends(16383, 9000, -16384, 8999),
+    ends(100, 16383, 99, -16384),
+    ends(-16384, 0, 16382, 16383),
+];
+
+fn draw(bench: &mut Bench, window: Window, start: &[u8], ends: Ends) {
+    let line = Line::new(ends);
+    let list = bench.list(&line, &vec![7; 98_304]).to_vec();
+    bench.draw(Drawer::Single, &line, window, start);
+    bench.draw(Drawer::Double, &line, window, start);
+    for (first, rows) in [(0, SIDE), (SIDE - 1, 1), (4095, 4096), (1, SIDE)] {
+        bench.draw(Drawer::Band(Band { first, rows }), &line, window, start);
+    }
+    bench.paint(Stored::of(&line, &list), window, start);
+}
+
+/// The search in a frame with padding alone, then rows and search where the last pixel is marked as well.
+fn look(bench: &mut Bench, window: Window) {
+    let mut start = vec![0; window.raster_bytes() as usize];
+    set_padding(window, &mut start);
+    bench.search(window, &start);
+    let last = start.len() - 1;
+    start[last] |= 128 >> ((window.width - 1) % 8);
+    bench.search(window, &start);
+    for row in [0, SIDE - 1, SIDE] {
+        bench.row(window, &start, row);
+    }
+    bench.search(window, &start[..last]);
+    bench.draw(Drawer::Single, &Line::new(ENDS[0]), window, &start[..last]);
+}
+
+/// A sum that does not fit in 32 bits: the same run of 8192 pixels, 2^19 + 1 times, in a window of one row.
+fn largest_sum(bench: &mut Bench) {
+    let runs = (1 << 19) + 1;
+    let window = window(0, 0, SIDE, 1);
+    let list = [0, 0, SIDE as i32].repeat(runs as usize);
+    let stored = Stored {
+        axis: 0,
+        count: runs,
+        list: &list,
+    };
+    let sum = c::Drawn {
+        refused: 0,
+        place: 0,
+        count: u64::from(runs) * u64::from(SIDE),
+    };
+    bench.paint_known(stored, window, &[0; 1024], sum, &[255; 1024]);
+}
+
+pub fn run(bench: &mut Bench, random: &mut Random) {
+    let places = [
+        (-16384, -16384),
+        (8192, 8192),
+        (-4096, 5000),
+        (8192, -16384),
+    ];
+    for ((left, top), width) in places.into_iter().zip([SIDE, SIDE, SIDE - 1, SIDE - 1]) {
+        let window = window(left, top, width, SIDE);
+        let start = raster(random, window);
+        for ends in ENDS {
+            draw(bench, window, &start, ends);
+        }
+        look(bench, window);
+    }
+    largest_sum(bench);
+}

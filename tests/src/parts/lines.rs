@@ -1,0 +1,48 @@
+//! Random lines over the whole coordinate range, each in some windows at it and far from it, by every drawer, by listing and
+//! painting, and in a band.
+use crate::bench::{Bench, Drawer, Stored};
+use crate::make::{ends, numbers, raster, window_near};
+use crate::random::Random;
+use paper::draw::Band;
+use paper::frame::Window;
+use paper::line::Line;
+
+/// How far the ends are apart, how many such lines, and how many windows each gets.
+const KINDS: [(i32, u32, u32); 3] = [(40, 1_000_000, 1), (700, 100_000, 2), (32767, 12_000, 6)];
+
+/// A band within the window, or one that ends below it.
+fn band(random: &mut Random, window: Window) -> Band {
+    let first = random.below(window.height);
+    let rows = random.below(window.height - first + 2);
+    Band { first, rows }
+}
+
+/// The line's list: as long as it must be, longer, or one number short.
+fn list_len(random: &mut Random, line: &Line) -> usize {
+    let needed = 3 * (line.short as usize + 1);
+    needed + random.pick(&[0, 0, 1, 7]) as usize - usize::from(random.one_in(8))
+}
+
+fn in_window(bench: &mut Bench, random: &mut Random, line: &Line, stored: Stored) {
+    let window = window_near(random, line);
+    let start = raster(random, window);
+    bench.draw(Drawer::Single, line, window, &start);
+    bench.draw(Drawer::Double, line, window, &start);
+    bench.draw(Drawer::Band(band(random, window)), line, window, &start);
+    bench.paint(stored, window, &start);
+}
+
+pub fn run(bench: &mut Bench, random: &mut Random) {
+    for (reach, lines, windows) in KINDS {
+        for _ in 0..lines {
+            let line = Line::new(ends(random, reach));
+            let len = list_len(random, &line);
+            let start = numbers(random, len);
+            let list = bench.list(&line, &start).to_vec();
+            let stored = Stored::of(&line, &list);
+            for _ in 0..windows {
+                in_window(bench, random, &line, stored);
+            }
+        }
+    }
+}

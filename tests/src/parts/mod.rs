@@ -1,0 +1,9 @@
+//! The parts of the comparison, one file each.
+pub mod bands;
+pub mod hostile;
+pub mod largest;
+pub mod lines;
+pub mod rows;
+pub mod square;
+pub mod stored;
+pub mod texts;

@@ -1,0 +1,69 @@
+//! All pairs of ends in a small square with all small windows at and around it: every drawer, listing and painting, and band
+//! by band.
+use crate::bench::{Bench, Drawer, Stored};
+use crate::make::{numbers, raster};
+use crate::random::Random;
+use paper::draw::Band;
+use paper::frame::{ends, window, Ends, Window};
+use paper::line::Line;
+
+const SIDE: i32 = 7;
+const LARGEST: u32 = 4;
+
+/// All windows of these sides that touch the square or stand beside it.
+fn windows_around(width: u32, height: u32) -> Vec<Window> {
+    let mut windows = Vec::new();
+    for left in -(width as i32)..=SIDE {
+        for top in -(height as i32)..=SIDE {
+            windows.push(window(left, top, width, height));
+        }
+    }
+    windows
+}
+
+/// All small sides, and some wider ones, whose rows have more than one byte and padding or none.
+fn windows() -> Vec<Window> {
+    let small = (1..=LARGEST).flat_map(|width| (1..=LARGEST).map(move |height| (width, height)));
+    let wide = [(9, 2), (12, 1), (16, 3), (17, 2)];
+    small
+        .chain(wide)
+        .flat_map(|(width, height)| windows_around(width, height))
+        .collect()
+}
+
+fn all_ends() -> Vec<Ends> {
+    let place = |n: i32| (n % SIDE, n / SIDE);
+    let pair = |n: i32| {
+        let ((x0, y0), (x1, y1)) = (place(n % (SIDE * SIDE)), place(n / (SIDE * SIDE)));
+        ends(x0, y0, x1, y1)
+    };
+    (0..SIDE.pow(4)).map(pair).collect()
+}
+
+/// The line in the window, each way of drawing from the same start.
+fn every_way(bench: &mut Bench, line: &Line, list: &[i32], window: Window, start: &[u8]) {
+    bench.draw(Drawer::Single, line, window, start);
+    bench.draw(Drawer::Double, line, window, start);
+    bench.paint(Stored::of(line, list), window, start);
+    let row = |first| Drawer::Band(Band { first, rows: 1 });
+    bench.draw(row(0), line, window, start);
+    for first in 1..window.height {
+        bench.draw_again(row(first), line, window);
+    }
+}
+
+pub fn run(bench: &mut Bench, random: &mut Random) {
+    let windows = windows();
+    for window in &windows {
+        bench.window(*window);
+    }
+    for ends in all_ends() {
+        let line = Line::new(ends);
+        let start = numbers(random, 3 * SIDE as usize);
+        let list = bench.list(&line, &start).to_vec();
+        for window in &windows {
+            let start = raster(random, *window);
+            every_way(bench, &line, &list, *window, &start);
+        }
+    }
+}
