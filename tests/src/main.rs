@@ -4,22 +4,22 @@
 #![deny(unsafe_code)]
 
 mod answers;
-mod bench;
 mod buffer;
 mod c;
+mod comparison;
 mod make;
 mod parts;
 mod random;
 mod report;
 
-use bench::Bench;
+use comparison::Comparison;
 use random::Random;
 use std::process::ExitCode;
 use std::time::Instant;
 
 const SEED: u64 = 1;
 
-type Run = fn(&mut Bench, &mut Random);
+type Run = fn(&mut Comparison, &mut Random);
 
 const PARTS: [(&str, Run); 12] = [
     ("all lines of a small square", parts::square::run),
@@ -42,13 +42,13 @@ fn main() -> ExitCode {
         None => SEED,
     };
     println!("seed {seed}");
-    let mut bench = Bench::new();
+    let mut comparison = Comparison::new();
     let (mut cases, mut differ) = (0, 0);
     for (name, run) in PARTS {
         let begun = Instant::now();
         // Each part has its own sequence, so that a part's numbers can be changed without changing the others' cases.
-        run(&mut bench, &mut Random::new(seed));
-        let (more, wrong) = bench.report.close(name, begun.elapsed().as_secs_f64());
+        run(&mut comparison, &mut Random::new(seed));
+        let (more, wrong) = comparison.report.close(name, begun.elapsed().as_secs_f64());
         cases += more;
         differ += wrong;
     }

@@ -1,6 +1,6 @@
 //! Lists of band calls on one raster, in random order with refused and repeated ones among them: compared after every call,
 //! and at the end with the line's pixels in the rows of all accepted bands; where those are all rows, also with painting.
-use crate::bench::{Bench, Drawer, Stored};
+use crate::comparison::{Comparison, Drawer, Stored};
 use crate::make::{ends, numbers, pixel_of, raster, window_at};
 use crate::random::Random;
 use paper::draw::Band;
@@ -62,35 +62,35 @@ fn after(line: &Line, window: Window, calls: &[Band], start: &[u8]) -> Vec<u8> {
 
 /// Listing and painting from the same start; the raster that it leaves.
 fn painted(
-    bench: &mut Bench,
+    comparison: &mut Comparison,
     random: &mut Random,
     line: &Line,
     window: Window,
     start: &[u8],
 ) -> Vec<u8> {
     let empty = numbers(random, 3 * (line.short as usize + 1));
-    let list = bench.list(line, &empty).to_vec();
-    bench.paint(Stored::of(line, &list), window, start);
-    bench.raster().to_vec()
+    let list = comparison.list(line, &empty).to_vec();
+    comparison.paint(Stored::of(line, &list), window, start);
+    comparison.raster().to_vec()
 }
 
-fn one_list(bench: &mut Bench, random: &mut Random) {
+fn one_list(comparison: &mut Comparison, random: &mut Random) {
     let line = Line::new(ends(random, 60));
     let near = pixel_of(random, &line);
     let (width, height) = (1 + random.below(40), 1 + random.below(HIGHEST_WINDOW));
     let window = window_at(random, near, width, height);
     let start = raster(random, window);
     let calls = calls(random, height);
-    bench.lend(&start);
+    comparison.lend(&start);
     for band in &calls {
-        bench.draw_again(Drawer::Band(*band), &line, window);
+        comparison.draw_again(Drawer::Band(*band), &line, window);
     }
-    let by_bands = bench.raster().to_vec();
+    let by_bands = comparison.raster().to_vec();
     let expected = after(&line, window, &calls, &start);
-    bench.same("a list of bands", &line, window, &by_bands, &expected);
+    comparison.same("a list of bands", &line, window, &by_bands, &expected);
     if (0..i64::from(height)).all(|row| accepted(&calls, window, row)) {
-        let painted = painted(bench, random, &line, window, &start);
-        bench.same(
+        let painted = painted(comparison, random, &line, window, &start);
+        comparison.same(
             "bands of all rows, and painting",
             &line,
             window,
@@ -100,8 +100,8 @@ fn one_list(bench: &mut Bench, random: &mut Random) {
     }
 }
 
-pub fn run(bench: &mut Bench, random: &mut Random) {
+pub fn run(comparison: &mut Comparison, random: &mut Random) {
     for _ in 0..LISTS {
-        one_list(bench, random);
+        one_list(comparison, random);
     }
 }

@@ -1,6 +1,6 @@
 //! Frames and sums of the largest sizes.
-use crate::bench::{Bench, Drawer, Stored};
 use crate::c;
+use crate::comparison::{Comparison, Drawer, Stored};
 use crate::make::{raster, set_padding};
 use crate::random::Random;
 use paper::draw::Band;
@@ -18,34 +18,34 @@ const ENDS: [Ends; 5] = [
     ends(-16384, 0, 16382, 16383),
 ];
 
-fn draw(bench: &mut Bench, window: Window, start: &[u8], ends: Ends) {
+fn draw(comparison: &mut Comparison, window: Window, start: &[u8], ends: Ends) {
     let line = Line::new(ends);
-    let list = bench.list(&line, &vec![7; 98_304]).to_vec();
-    bench.draw(Drawer::Single, &line, window, start);
-    bench.draw(Drawer::Double, &line, window, start);
+    let list = comparison.list(&line, &vec![7; 98_304]).to_vec();
+    comparison.draw(Drawer::Single, &line, window, start);
+    comparison.draw(Drawer::Double, &line, window, start);
     for (first, rows) in [(0, SIDE), (SIDE - 1, 1), (4095, 4096), (1, SIDE)] {
-        bench.draw(Drawer::Band(Band { first, rows }), &line, window, start);
+        comparison.draw(Drawer::Band(Band { first, rows }), &line, window, start);
     }
-    bench.paint(Stored::of(&line, &list), window, start);
+    comparison.paint(Stored::of(&line, &list), window, start);
 }
 
 /// The search in a frame with padding alone, then rows and search where the last pixel is marked as well.
-fn look(bench: &mut Bench, window: Window) {
+fn look(comparison: &mut Comparison, window: Window) {
     let mut start = vec![0; window.raster_bytes() as usize];
     set_padding(window, &mut start);
-    bench.search(window, &start);
+    comparison.search(window, &start);
     let last = start.len() - 1;
     start[last] |= 128 >> ((window.width - 1) % 8);
-    bench.search(window, &start);
+    comparison.search(window, &start);
     for row in [0, SIDE - 1, SIDE] {
-        bench.row(window, &start, row);
+        comparison.row(window, &start, row);
     }
-    bench.search(window, &start[..last]);
-    bench.draw(Drawer::Single, &Line::new(ENDS[0]), window, &start[..last]);
+    comparison.search(window, &start[..last]);
+    comparison.draw(Drawer::Single, &Line::new(ENDS[0]), window, &start[..last]);
 }
 
 /// A sum that does not fit in 32 bits: the same run of 8192 pixels, 2^19 + 1 times, in a window of one row.
-fn largest_sum(bench: &mut Bench) {
+fn largest_sum(comparison: &mut Comparison) {
     let runs = (1 << 19) + 1;
     let window = window(0, 0, SIDE, 1);
     let list = [0, 0, SIDE as i32].repeat(runs as usize);
@@ -59,10 +59,10 @@ fn largest_sum(bench: &mut Bench) {
         place: 0,
         count: u64::from(runs) * u64::from(SIDE),
     };
-    bench.paint_known(stored, window, &[0; 1024], sum, &[255; 1024]);
+    comparison.paint_known(stored, window, &[0; 1024], sum, &[255; 1024]);
 }
 
-pub fn run(bench: &mut Bench, random: &mut Random) {
+pub fn run(comparison: &mut Comparison, random: &mut Random) {
     let places = [
         (-16384, -16384),
         (8192, 8192),
@@ -73,9 +73,9 @@ pub fn run(bench: &mut Bench, random: &mut Random) {
         let window = window(left, top, width, SIDE);
         let start = raster(random, window);
         for ends in ENDS {
-            draw(bench, window, &start, ends);
+            draw(comparison, window, &start, ends);
         }
-        look(bench, window);
+        look(comparison, window);
     }
-    largest_sum(bench);
+    largest_sum(comparison);
 }

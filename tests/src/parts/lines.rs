@@ -1,6 +1,6 @@
 //! Random lines over the whole coordinate range, each in some windows at it and far from it, by every drawer, by listing and
 //! painting, and in a band.
-use crate::bench::{Bench, Drawer, Stored};
+use crate::comparison::{Comparison, Drawer, Stored};
 use crate::make::{ends, numbers, raster, window_near};
 use crate::random::Random;
 use paper::draw::Band;
@@ -23,25 +23,25 @@ fn list_len(random: &mut Random, line: &Line) -> usize {
     needed + random.pick(&[0, 0, 1, 7]) as usize - usize::from(random.one_in(8))
 }
 
-fn in_window(bench: &mut Bench, random: &mut Random, line: &Line, stored: Stored) {
+fn in_window(comparison: &mut Comparison, random: &mut Random, line: &Line, stored: Stored) {
     let window = window_near(random, line);
     let start = raster(random, window);
-    bench.draw(Drawer::Single, line, window, &start);
-    bench.draw(Drawer::Double, line, window, &start);
-    bench.draw(Drawer::Band(band(random, window)), line, window, &start);
-    bench.paint(stored, window, &start);
+    comparison.draw(Drawer::Single, line, window, &start);
+    comparison.draw(Drawer::Double, line, window, &start);
+    comparison.draw(Drawer::Band(band(random, window)), line, window, &start);
+    comparison.paint(stored, window, &start);
 }
 
-pub fn run(bench: &mut Bench, random: &mut Random) {
+pub fn run(comparison: &mut Comparison, random: &mut Random) {
     for (reach, lines, windows) in KINDS {
         for _ in 0..lines {
             let line = Line::new(ends(random, reach));
             let len = list_len(random, &line);
             let start = numbers(random, len);
-            let list = bench.list(&line, &start).to_vec();
+            let list = comparison.list(&line, &start).to_vec();
             let stored = Stored::of(&line, &list);
             for _ in 0..windows {
-                in_window(bench, random, &line, stored);
+                in_window(comparison, random, &line, stored);
             }
         }
     }

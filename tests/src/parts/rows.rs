@@ -1,5 +1,5 @@
 //! The row view and the search: rasters with few marks, with padding alone, with padding before the first mark.
-use crate::bench::Bench;
+use crate::comparison::Comparison;
 use crate::make::{any_pixel, set_padding, window_at};
 use crate::random::Random;
 use paper::frame::{pixel, window, Window};
@@ -45,36 +45,36 @@ fn row(random: &mut Random, height: u32) -> u32 {
     }
 }
 
-fn one_frame(bench: &mut Bench, random: &mut Random, window: Window) {
+fn one_frame(comparison: &mut Comparison, random: &mut Random, window: Window) {
     let start = sparse(random, window);
-    bench.search(window, &start);
+    comparison.search(window, &start);
     let row = row(random, window.height);
-    bench.row(window, &start, row);
+    comparison.row(window, &start, row);
 }
 
 /// Padding in row 0 and a bit in row 1, for every width up to 24.
-fn padding_first(bench: &mut Bench) {
+fn padding_first(comparison: &mut Comparison) {
     for width in 1..=24 {
         let window = window(-9, 4, width, 2);
         for column in 0..width as i32 {
             let mut raster = vec![0; window.raster_bytes() as usize];
             set_padding(window, &mut raster);
-            bench.search(window, &raster);
+            comparison.search(window, &raster);
             let at = pixel(window.left + column, window.top + 1);
             mark(window, &mut raster, at);
-            bench.search(window, &raster);
+            comparison.search(window, &raster);
         }
     }
 }
 
-pub fn run(bench: &mut Bench, random: &mut Random) {
-    padding_first(bench);
+pub fn run(comparison: &mut Comparison, random: &mut Random) {
+    padding_first(comparison);
     for _ in 0..SMALL_FRAMES {
         let window = any_window(random, 40, 8);
-        one_frame(bench, random, window);
+        one_frame(comparison, random, window);
     }
     for _ in 0..WIDE_FRAMES {
         let window = any_window(random, 2000, 5);
-        one_frame(bench, random, window);
+        one_frame(comparison, random, window);
     }
 }

@@ -1,6 +1,6 @@
 //! All pairs of ends in a small square with all small windows at and around it: every drawer, listing and painting, and band
 //! by band.
-use crate::bench::{Bench, Drawer, Stored};
+use crate::comparison::{Comparison, Drawer, Stored};
 use crate::make::{numbers, raster};
 use crate::random::Random;
 use paper::draw::Band;
@@ -41,29 +41,29 @@ fn all_ends() -> Vec<Ends> {
 }
 
 /// The line in the window, each way of drawing from the same start.
-fn every_way(bench: &mut Bench, line: &Line, list: &[i32], window: Window, start: &[u8]) {
-    bench.draw(Drawer::Single, line, window, start);
-    bench.draw(Drawer::Double, line, window, start);
-    bench.paint(Stored::of(line, list), window, start);
+fn every_way(comparison: &mut Comparison, line: &Line, list: &[i32], window: Window, start: &[u8]) {
+    comparison.draw(Drawer::Single, line, window, start);
+    comparison.draw(Drawer::Double, line, window, start);
+    comparison.paint(Stored::of(line, list), window, start);
     let row = |first| Drawer::Band(Band { first, rows: 1 });
-    bench.draw(row(0), line, window, start);
+    comparison.draw(row(0), line, window, start);
     for first in 1..window.height {
-        bench.draw_again(row(first), line, window);
+        comparison.draw_again(row(first), line, window);
     }
 }
 
-pub fn run(bench: &mut Bench, random: &mut Random) {
+pub fn run(comparison: &mut Comparison, random: &mut Random) {
     let windows = windows();
     for window in &windows {
-        bench.window(*window);
+        comparison.window(*window);
     }
     for ends in all_ends() {
         let line = Line::new(ends);
         let start = numbers(random, 3 * SIDE as usize);
-        let list = bench.list(&line, &start).to_vec();
+        let list = comparison.list(&line, &start).to_vec();
         for window in &windows {
             let start = raster(random, *window);
-            every_way(bench, &line, &list, *window, &start);
+            every_way(comparison, &line, &list, *window, &start);
         }
     }
 }

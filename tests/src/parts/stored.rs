@@ -1,5 +1,5 @@
 //! Random run lists with overlaps, along both axes; a few with a bad run, and numbers of any size after the counted runs.
-use crate::bench::{Bench, Stored};
+use crate::comparison::{Comparison, Stored};
 use crate::make::{any_pixel, coordinate, in_range, numbers, raster, window_at};
 use crate::random::Random;
 use paper::frame::Window;
@@ -29,7 +29,7 @@ fn run_near(random: &mut Random, along_x: bool, window: Window) -> [i32; 3] {
     [short, lowest, random.between(1, longest)]
 }
 
-fn one_list(bench: &mut Bench, random: &mut Random) {
+fn one_list(comparison: &mut Comparison, random: &mut Random) {
     let near = any_pixel(random);
     let (width, height) = (1 + random.below(40), 1 + random.below(12));
     let window = window_at(random, near, width, height);
@@ -50,11 +50,11 @@ fn one_list(bench: &mut Bench, random: &mut Random) {
         count,
         list: &list,
     };
-    bench.paint(stored, window, &raster(random, window));
+    comparison.paint(stored, window, &raster(random, window));
 }
 
-pub fn run(bench: &mut Bench, random: &mut Random) {
+pub fn run(comparison: &mut Comparison, random: &mut Random) {
     for _ in 0..LISTS {
-        one_list(bench, random);
+        one_list(comparison, random);
     }
 }

@@ -1,5 +1,5 @@
 //! What `lineruns` prints: lawful lines, lines with some bytes changed, and the edges of what it reads.
-use crate::bench::{Bench, LEAST_ROOM};
+use crate::comparison::{Comparison, LEAST_ROOM};
 use crate::make::coordinate;
 use crate::random::Random;
 
@@ -105,7 +105,7 @@ fn text(random: &mut Random) -> Vec<u8> {
 }
 
 /// The edges, each with rooms around the least one; inputs around 64 bytes, and very long ones.
-fn edges(bench: &mut Bench, output: &[u8]) {
+fn edges(comparison: &mut Comparison, output: &[u8]) {
     let mut longer = output.to_vec();
     longer.extend_from_slice(&[1, 2, 3, 4, 5]);
     let rooms = [
@@ -117,21 +117,21 @@ fn edges(bench: &mut Bench, output: &[u8]) {
     ];
     for edge in EDGES {
         for room in rooms {
-            bench.text(edge.as_bytes(), room);
+            comparison.text(edge.as_bytes(), room);
         }
     }
     for len in [62, 63, 64, 65, 66, 70, 4096, 1 << 20] {
         for byte in [b'0', b' ', b'\n', b'1', b'-', 0] {
             let mut input = b"0 0 11 3".to_vec();
             input.resize(len, byte);
-            bench.text(&input, output);
-            bench.text(&vec![byte; len], output);
+            comparison.text(&input, output);
+            comparison.text(&vec![byte; len], output);
         }
     }
 }
 
 /// Lines of just under and just over 5000 runs, in all directions from a corner or the middle.
-fn around_most_runs(bench: &mut Bench, output: &[u8]) {
+fn around_most_runs(comparison: &mut Comparison, output: &[u8]) {
     for short in 4998..=5001 {
         for long in [short, short + 1, 2 * short, 16383] {
             for (x, y) in [(long, short), (short, long)] {
@@ -142,22 +142,22 @@ fn around_most_runs(bench: &mut Bench, output: &[u8]) {
                     format!("-16384 -16384 {} {}", x - 16384, y - 16384),
                     format!("{} {} -16384 -16384\n", x - 16384, y - 16384),
                 ] {
-                    bench.text(text.as_bytes(), output);
+                    comparison.text(text.as_bytes(), output);
                 }
             }
         }
     }
 }
 
-pub fn run(bench: &mut Bench, random: &mut Random) {
+pub fn run(comparison: &mut Comparison, random: &mut Random) {
     let mut output = vec![0; LEAST_ROOM];
     random.fill(&mut output);
-    edges(bench, &output);
-    around_most_runs(bench, &output);
+    edges(comparison, &output);
+    around_most_runs(comparison, &output);
     for _ in 0..TEXTS {
-        bench.text(&text(random), &output);
+        comparison.text(&text(random), &output);
     }
     for _ in 0..LONG_LINES {
-        bench.text(&line(random, false), &output);
+        comparison.text(&line(random, false), &output);
     }
 }

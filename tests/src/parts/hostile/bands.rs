@@ -1,5 +1,5 @@
 //! Bands and rows around the window's last row, and bands whose end wraps.
-use crate::bench::{Bench, Drawer};
+use crate::comparison::{Comparison, Drawer};
 use crate::make::raster;
 use crate::random::Random;
 use paper::draw::Band;
@@ -16,7 +16,7 @@ const FAR: [u32; 7] = [
     u32::MAX,
 ];
 
-pub fn run(bench: &mut Bench, random: &mut Random) {
+pub fn run(comparison: &mut Comparison, random: &mut Random) {
     let line = Line::new(ends(0, 0, 9, 4));
     for height in [1, 2, 5, 8192] {
         let window = window(0, 0, 10, height);
@@ -27,9 +27,9 @@ pub fn run(bench: &mut Bench, random: &mut Random) {
             for rows in &choices {
                 let (first, rows) = (*first, *rows);
                 let start = raster(random, window);
-                bench.draw(Drawer::Band(Band { first, rows }), &line, window, &start);
+                comparison.draw(Drawer::Band(Band { first, rows }), &line, window, &start);
             }
-            bench.row(window, &raster(random, window), *first);
+            comparison.row(window, &raster(random, window), *first);
         }
     }
 }

@@ -1,6 +1,6 @@
 //! All ends of hostile numbers in a few windows, with lists one number short, just long enough, and longer.
 use super::ENDS;
-use crate::bench::{Bench, Drawer};
+use crate::comparison::{Comparison, Drawer};
 use crate::make::{numbers, raster};
 use crate::random::Random;
 use paper::draw::Band;
@@ -32,19 +32,19 @@ fn list_len(line: &Line) -> usize {
     }
 }
 
-pub fn run(bench: &mut Bench, random: &mut Random) {
+pub fn run(comparison: &mut Comparison, random: &mut Random) {
     for ends in all_ends() {
         let line = Line::new(ends);
         for window in WINDOWS {
             let start = raster(random, window);
-            bench.draw(Drawer::Single, &line, window, &start);
-            bench.draw(Drawer::Double, &line, window, &start);
+            comparison.draw(Drawer::Single, &line, window, &start);
+            comparison.draw(Drawer::Double, &line, window, &start);
             let band = Band { first: 0, rows: 1 };
-            bench.draw(Drawer::Band(band), &line, window, &start);
+            comparison.draw(Drawer::Band(band), &line, window, &start);
         }
         let needed = list_len(&line);
         for len in [0, needed - 1, needed, needed + 2] {
-            bench.list(&line, &numbers(random, len));
+            comparison.list(&line, &numbers(random, len));
         }
     }
 }

@@ -1,5 +1,5 @@
 //! Counts, lists and runs at and beyond every limit, for the run painter.
-use crate::bench::{Bench, Stored};
+use crate::comparison::{Comparison, Stored};
 use crate::make::raster;
 use crate::random::Random;
 use paper::frame::{window, Window};
@@ -59,7 +59,7 @@ const WINDOWS: [Window; 4] = [
 const RANDOM_LISTS: u32 = 400_000;
 
 /// All runs of hostile numbers, alone and as the first, the middle and the last of three.
-fn single_runs(bench: &mut Bench, random: &mut Random) {
+fn single_runs(comparison: &mut Comparison, random: &mut Random) {
     for short in PLACES {
         for lowest in PLACES {
             for pixels in PIXELS {
@@ -74,8 +74,8 @@ fn single_runs(bench: &mut Bench, random: &mut Random) {
                         count: 3,
                         list: &list,
                     };
-                    bench.paint(stored, window, &start);
-                    bench.paint(Stored { count: 1, ..stored }, window, &start);
+                    comparison.paint(stored, window, &start);
+                    comparison.paint(Stored { count: 1, ..stored }, window, &start);
                 }
             }
         }
@@ -83,7 +83,7 @@ fn single_runs(bench: &mut Bench, random: &mut Random) {
 }
 
 /// All counts with lists of all lengths around them; the numbers after the counted runs are hostile.
-fn counts(bench: &mut Bench, random: &mut Random) {
+fn counts(comparison: &mut Comparison, random: &mut Random) {
     for count in COUNTS {
         for len in 0..=14 {
             for lawful in 0..=4 {
@@ -98,7 +98,7 @@ fn counts(bench: &mut Bench, random: &mut Random) {
                         count,
                         list: &list,
                     };
-                    bench.paint(stored, window, &start);
+                    comparison.paint(stored, window, &start);
                 }
             }
         }
@@ -106,7 +106,7 @@ fn counts(bench: &mut Bench, random: &mut Random) {
 }
 
 /// Lists of a few runs whose numbers are lawful or hostile each by itself.
-fn mixed(bench: &mut Bench, random: &mut Random) {
+fn mixed(comparison: &mut Comparison, random: &mut Random) {
     let runs = random.below(6);
     let mut list = Vec::new();
     for _ in 0..runs {
@@ -143,13 +143,13 @@ fn mixed(bench: &mut Bench, random: &mut Random) {
         count,
         list: &list,
     };
-    bench.paint(stored, window, &start);
+    comparison.paint(stored, window, &start);
 }
 
-pub fn run(bench: &mut Bench, random: &mut Random) {
-    single_runs(bench, random);
-    counts(bench, random);
+pub fn run(comparison: &mut Comparison, random: &mut Random) {
+    single_runs(comparison, random);
+    counts(comparison, random);
     for _ in 0..RANDOM_LISTS {
-        mixed(bench, random);
+        mixed(comparison, random);
     }
 }

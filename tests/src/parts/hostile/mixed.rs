@@ -1,6 +1,6 @@
 //! Each argument lawful or hostile by itself, so that conditions are met in every combination.
 use super::{bytes, everything, raster_lengths, ENDS, ROWS, SIDES};
-use crate::bench::Bench;
+use crate::comparison::Comparison;
 use crate::random::Random;
 use paper::draw::Band;
 use paper::frame::{ends, window, Window};
@@ -49,7 +49,7 @@ fn raster_len(random: &mut Random, window: Window) -> usize {
     }
 }
 
-pub fn run(bench: &mut Bench, random: &mut Random) {
+pub fn run(comparison: &mut Comparison, random: &mut Random) {
     for _ in 0..CASES {
         let mut end = || place(random, 12);
         let line = Line::new(ends(end(), end(), end(), end()));
@@ -57,6 +57,6 @@ pub fn run(bench: &mut Bench, random: &mut Random) {
         let window = window(left, top, side(random), side(random));
         let len = raster_len(random, window);
         let start = bytes(random, len);
-        everything(bench, &line, window, &start, band(random, window));
+        everything(comparison, &line, window, &start, band(random, window));
     }
 }

@@ -5,7 +5,7 @@ pub mod lists;
 pub mod mixed;
 pub mod windows;
 
-use crate::bench::{Bench, Drawer, Stored};
+use crate::comparison::{Comparison, Drawer, Stored};
 use crate::random::Random;
 use paper::draw::Band;
 use paper::frame::Window;
@@ -29,19 +29,19 @@ const ROWS: [u32; 8] = [0, 1, 7, 8, 8191, 8192, 0x8000_0000, u32::MAX];
 const LONGEST_RASTER: u64 = 8192;
 
 /// Every function that takes a window.
-fn everything(bench: &mut Bench, line: &Line, window: Window, start: &[u8], band: Band) {
-    bench.window(window);
-    bench.draw(Drawer::Single, line, window, start);
-    bench.draw(Drawer::Double, line, window, start);
-    bench.draw(Drawer::Band(band), line, window, start);
-    bench.row(window, start, band.first);
-    bench.search(window, start);
+fn everything(comparison: &mut Comparison, line: &Line, window: Window, start: &[u8], band: Band) {
+    comparison.window(window);
+    comparison.draw(Drawer::Single, line, window, start);
+    comparison.draw(Drawer::Double, line, window, start);
+    comparison.draw(Drawer::Band(band), line, window, start);
+    comparison.row(window, start, band.first);
+    comparison.search(window, start);
     let stored = Stored {
         axis: band.rows,
         count: 2,
         list: &[0, 0, 9, 1, -3, 5, i32::MIN],
     };
-    bench.paint(stored, window, start);
+    comparison.paint(stored, window, start);
 }
 
 /// The right length and its neighbours where they are short; else some wrong ones.

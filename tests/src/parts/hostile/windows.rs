@@ -1,7 +1,7 @@
 //! All windows of hostile numbers, with rasters of the right length and of wrong ones, and random windows around the last
 //! place that a side can have.
 use super::{bytes, everything, raster_lengths, ROWS, SIDES};
-use crate::bench::Bench;
+use crate::comparison::Comparison;
 use crate::random::Random;
 use paper::draw::Band;
 use paper::frame::{ends, window, Window};
@@ -53,7 +53,7 @@ fn window_at_limit(random: &mut Random) -> Window {
     }
 }
 
-pub fn run(bench: &mut Bench, random: &mut Random) {
+pub fn run(comparison: &mut Comparison, random: &mut Random) {
     let line = Line::new(ends(0, 0, 9, 4));
     for window in all_windows() {
         for len in raster_lengths(window) {
@@ -62,12 +62,12 @@ pub fn run(bench: &mut Bench, random: &mut Random) {
                 first: random.pick(&ROWS),
                 rows: random.pick(&ROWS),
             };
-            everything(bench, &line, window, &start, band);
+            everything(comparison, &line, window, &start, band);
         }
     }
     for _ in 0..AT_THE_LIMIT {
         let window = window_at_limit(random);
         let band = Band { first: 0, rows: 1 };
-        everything(bench, &line, window, &[0], band);
+        everything(comparison, &line, window, &[0], band);
     }
 }

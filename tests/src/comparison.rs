@@ -43,7 +43,7 @@ impl Stored<'_> {
     }
 }
 
-pub struct Bench {
+pub struct Comparison {
     pub report: Report,
     raster: Lent<u8>,
     list: Lent<i32>,
@@ -52,9 +52,9 @@ pub struct Bench {
     expected: Vec<u8>,
 }
 
-impl Bench {
-    pub fn new() -> Bench {
-        Bench {
+impl Comparison {
+    pub fn new() -> Comparison {
+        Comparison {
             report: Report::default(),
             raster: Lent::new(BYTES),
             list: Lent::new(NUMBERS),
