@@ -15,12 +15,14 @@ use Rattle.refusal.proofs.Handing.{handed-on, handed-back, kept, same-number}
 use Rattle.raster.specs.Window.{lengthOff, windowConditions, frameConditions}
 use Rattle.raster.specs.Drawn.{countOf}
 use Rattle.raster.specs.declared.window.Window.{Window}
+use Rattle.raster.proofs.Frames.{window-in}
 use Rattle.raster.proofs.Over.{Bytes}
 use Rattle.runs.specs.Painting.{paintAnswer, paintAfter}
 use Rattle.line.specs.Line.{short, axis, endsOut}
 use Rattle.line.specs.Drawing.{lineConditions, lineCount, lineRaster}
 use Rattle.line.specs.Listing.{listConditions, lineList, listAnswer, listAfter}
 use Rattle.line.specs.declared.ends.Ends.{Ends}
+use Rattle.line.proofs.Drawn.{line-numbered}
 use Rattle.line.proofs.RunFacts.{listed-and-painted}
 use Rattle.band.specs.Calls.{afterBands, bandList, refusedCalls}
 use Rattle.band.specs.EqualRaster.{EqualRaster}
@@ -33,13 +35,12 @@ module _ (e : Ends) (w : Window) (n m : ℕ) where
   pub second-frame : firstMet (lineConditions e w n) ≡ 0 → firstMet (frameConditions w m) ≡ firstMet (framesConditions e w n m)
   second-frame h =
       let p = none-met 0 (endsOut e) (frameConditions w n) h .1 in
-      let q = append-none (windowConditions w) ((4, lengthOff w n) ∷ []) (lit≤ tt, (lit≤ tt, tt)) p .0 in
-      append-passed (windowConditions w) ((4, lengthOff w m) ∷ []) (lit≤ tt, (lit≤ tt, tt)) q
-      ∙ sym (append-passed (lineConditions e w n) ((4, lengthOff w m) ∷ []) (lit≤ tt, (lit≤ tt, (lit≤ tt, (lit≤ tt, tt)))) h)
+      append-passed (windowConditions w) ((4, lengthOff w m) ∷ []) (lit≤ tt, (lit≤ tt, tt)) (window-in w n p)
+      ∙ sym (append-passed (lineConditions e w n) ((4, lengthOff w m) ∷ []) (line-numbered e w n) h)
 
   module _ (h : firstMet (framesConditions e w n m) ≡ 0) where
     pub line-in : firstMet (lineConditions e w n) ≡ 0
-    line-in = append-none (lineConditions e w n) ((4, lengthOff w m) ∷ []) (lit≤ tt, (lit≤ tt, (lit≤ tt, (lit≤ tt, tt)))) h .0
+    line-in = append-none (lineConditions e w n) ((4, lengthOff w m) ∷ []) (line-numbered e w n) h .0
 
     -- past both frames' conditions, what is left are the lister's
     pub lister-left : (k : ℕ) → firstMet (listConditions e k) ≡ firstMet (bothConditions e w n m k)

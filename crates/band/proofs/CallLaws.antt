@@ -8,8 +8,8 @@ use native.Mathlib.Omega.{arith}
 use native.Mathlib.Numerals.{add-one}
 use lib.IntN.{ℤ, pos, _+ℤ_}
 use lib.ListN.{length}
-use lib.Dec.{lit≤}
 use Rattle.counting.specs.Count.{one, count, each}
+use Rattle.counting.proofs.Counted.{one-most}
 use Rattle.refusal.specs.Refusal.{firstMet, unlessRefused, answer, given, refused, isRefused}
 use Rattle.refusal.proofs.Conditions.{append-passed}
 use Rattle.raster.specs.Raster.{plus}
@@ -21,6 +21,7 @@ use Rattle.raster.proofs.Plus.{plus-length, plus-bytes, plus-plus, plus-cong, p
 use Rattle.line.specs.Line.{onLine}
 use Rattle.line.specs.Drawing.{lineConditions}
 use Rattle.line.specs.declared.ends.Ends.{Ends}
+use Rattle.line.proofs.Drawn.{line-numbered}
 use Rattle.band.specs.Drawing.{bandConditions, bandCount, bandRaster, bandAnswer, bandAfter}
 use Rattle.band.specs.Calls.{Band, afterBands, meets6, inBands, bandsOf, bandAt, bandList, refusedCalls}
 
@@ -48,7 +49,7 @@ module _ (e : Ends) (w : Window) where
 
     number-is : number ≡ cond (meets6 w b) 6 0
     unfolding firstMet
-    number-is = append-passed (lineConditions e w (length s)) ((6, meets6 w b) ∷ []) (lit≤ tt, (lit≤ tt, (lit≤ tt, (lit≤ tt, tt)))) h
+    number-is = append-passed (lineConditions e w (length s)) ((6, meets6 w b) ∷ []) (line-numbered e w (length s)) h
 
     pub call-answer : bandAnswer e w s (b .first) (b .rows) ≡ cond (meets6 w b) (refused 6) (given (bandCount e w (b .first) (b .rows)))
     call-answer = ap (λ (n : ℕ). answer n (bandCount e w (b .first) (b .rows))) number-is ∙ by (meets6 w b)
@@ -108,10 +109,6 @@ module _ (e : Ends) (w : Window) where
   unfolding afterBands
   bands-length s [] = refl
   bands-length s (b ∷ bs) = bands-length (bandAfter e w s (b .first) (b .rows)) bs ∙ after-length s (b .first) (b .rows)
-
-pub one-most : (t : Bool) → one t ≤ 1
-one-most true = omega arith
-one-most false = omega arith
 
 -- the first k calls of a list of numbers are made
 pub record Called (e : Ends) (w : Window) (s list now : List ℕ) (refusals k : ℕ) : Type 0 where

@@ -5,7 +5,7 @@ use mathlib.Core.Bool.{false}
 use mathlib.Core.List.{[], _∷_}
 use native.Mathlib.Omega.{arith}
 use native.Mathlib.Nat.{mul-le-mul-right}
-use lib.Dec.{ltb, eqb, lit≤}
+use lib.Dec.{ltb, eqb}
 use borrow.Author.Tests.{ltb-false, eqb-false}
 use Rattle.counting.proofs.Boolean.{or-neither}
 use Rattle.coordinate.specs.Coordinate.{biased}
@@ -20,6 +20,7 @@ use Rattle.raster.proofs.Frames.{Frame, size-in, frame, frame-met}
 use Rattle.line.specs.Line.{endsOut}
 use Rattle.line.specs.Drawing.{lineConditions}
 use Rattle.line.specs.declared.ends.Ends.{Ends}
+use Rattle.line.proofs.Drawn.{line-numbered}
 use Rattle.band.specs.Drawing.{bandOut, bandConditions}
 
 -- the rows of a band that doesn't meet 6
@@ -65,7 +66,7 @@ module _ (w : Window) (N f n : ℕ) (frm : Frame w N) (b : Within w f n) where
 
 module _ (e : Ends) (w : Window) (N f n : ℕ) (h : firstMet (bandConditions e w N f n) ≡ 0) where
   parts : (firstMet (lineConditions e w N) ≡ 0) × (firstMet ((6, bandOut w f n) ∷ []) ≡ 0)
-  parts = append-none (lineConditions e w N) ((6, bandOut w f n) ∷ []) (lit≤ tt, (lit≤ tt, (lit≤ tt, (lit≤ tt, tt)))) h
+  parts = append-none (lineConditions e w N) ((6, bandOut w f n) ∷ []) (line-numbered e w N) h
 
   pub line-passed : firstMet (lineConditions e w N) ≡ 0
   line-passed = parts .0

@@ -1,23 +1,19 @@
 -- A refusal's numbers are those of its answer: its number, the place where it has one, and 0 for the rest.
 use Prim.Native.Nat.{ℕ, zero, suc}
 use mathlib.Core.Path.{_≡_, refl, sym, ap, _∙_}
-use mathlib.Core.Logic.{_⊎_, inl, inr}
+use mathlib.Core.Logic.{inl, inr}
 use mathlib.Core.Option.{Option}
 use lib.IntN.{pos}
 use Rattle.coordinate.specs.declared.Axis.{Axis}
 use Rattle.coordinate.specs.declared.Axis.the-variants.{Y}
 use Rattle.coordinate.specs.declared.Pixel.{Pixel}
-use Rattle.refusal.specs.Refusal.{refused, refusedAt, turnedAway, number, place}
+use Rattle.refusal.specs.Refusal.{turnedAway, number, place}
 use Rattle.refusal.specs.declared.Refusal.{Refusal}
-use Rattle.refusal.proofs.Handing.{turned-is}
+use Rattle.refusal.proofs.Handing.{Turned, turned-is}
 use Rattle.capi.specs.Answers.{drawnNumbers, listedNumbers, foundNumbers, axisOf}
 use Rattle.capi.specs.declared.answers.TcDrawn.{TcDrawn}
 use Rattle.capi.specs.declared.answers.TcListed.{TcListed}
 use Rattle.capi.specs.declared.answers.TcFound.{TcFound}
-
--- the two forms of a refusal's answer
-abbrev Turned : Type 0 → Refusal → Type 0
-Turned A r = ((turnedAway {A = A} r ≡ refused (number r)) × (place r ≡ 0)) ⊎ (turnedAway {A = A} r ≡ refusedAt (number r) (place r))
 
 module _ (r : Refusal) where
   pub turned-drawn : _≡_ {A = TcDrawn} (record { refused = number r; place = place r; count = 0 }) (drawnNumbers (turnedAway r))

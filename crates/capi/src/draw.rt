@@ -11,7 +11,7 @@ ghost use Rattle.line.specs.Drawing.{drawAnswer, drawAfter};
 ghost use Rattle.band.specs.Drawing.{bandAnswer, bandAfter};
 ghost use Rattle.capi.specs.Answers.{drawnNumbers};
 
-// `line::draw::draw_single`.
+// Marks the line's pixels in the window and answers how many they are, as `line::draw::draw_single` does.
 #[no_mangle]
 pub extern "C" fn tc_draw_single(ends: Ends, window: Window, raster: &mut [u8]) -> TcDrawn
     ensures { λ r. ⌜ r ≡ drawnNumbers (drawAnswer ends window (now (raster .entry))) ⌝ }
@@ -20,7 +20,7 @@ pub extern "C" fn tc_draw_single(ends: Ends, window: Window, raster: &mut [u8]) 
     drawn_numbers(draw_single(ends, window, raster))
 }
 
-// `line::draw::draw_double`.
+// The same by double steps, as `line::draw::draw_double` does.
 #[no_mangle]
 pub extern "C" fn tc_draw_double(ends: Ends, window: Window, raster: &mut [u8]) -> TcDrawn
     ensures { λ r. ⌜ r ≡ drawnNumbers (drawAnswer ends window (now (raster .entry))) ⌝ }
@@ -29,7 +29,7 @@ pub extern "C" fn tc_draw_double(ends: Ends, window: Window, raster: &mut [u8]) 
     drawn_numbers(draw_double(ends, window, raster))
 }
 
-// `band::draw::draw_band`.
+// Marks the line's pixels in a band's rows alone, as `band::draw::draw_band` does.
 #[no_mangle]
 pub extern "C" fn tc_draw_band(
     ends: Ends,

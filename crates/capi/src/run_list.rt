@@ -13,7 +13,7 @@ ghost use Rattle.runs.specs.Painting.{paintAnswer, paintAfter};
 ghost use Rattle.line.specs.Listing.{listAnswer, listAfter};
 ghost use Rattle.capi.specs.Answers.{drawnNumbers, listedNumbers, axisOf};
 
-// `line::list::list_runs`.
+// Lists the line's runs, as `line::list::list_runs` does.
 #[no_mangle]
 pub extern "C" fn tc_list_runs(ends: Ends, list: &mut [i32]) -> TcListed
     ensures { λ r. ⌜ r ≡ listedNumbers (listAnswer ends (now (list .entry))) ⌝ }
@@ -22,7 +22,7 @@ pub extern "C" fn tc_list_runs(ends: Ends, list: &mut [i32]) -> TcListed
     listed_numbers(list_runs(ends, list))
 }
 
-// `runs::paint::paint_runs`; axis 0 is x, any other y.
+// Paints the first `count` runs of a list, as `runs::paint::paint_runs` does; axis 0 is x, any other y.
 #[no_mangle]
 pub extern "C" fn tc_paint_runs(
     axis: u32,

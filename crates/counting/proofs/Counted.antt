@@ -9,6 +9,10 @@ use native.Mathlib.Nat.{add-zero, add-suc, add-assoc}
 use Rattle.counting.specs.Count.{one, count}
 use Rattle.counting.proofs.Boolean.{clash}
 
+pub one-most : (t : Bool) → one t ≤ 1
+one-most true = omega arith
+one-most false = omega arith
+
 pub count-cong : (n : ℕ) (f g : ℕ → Bool) → ((i : ℕ) → i < n → f i ≡ g i) → count n f ≡ count n g
 unfolding count
 count-cong zero f g h = refl

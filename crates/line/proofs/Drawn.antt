@@ -5,14 +5,15 @@ use mathlib.Core.Bool.{false}
 use mathlib.Core.List.{List}
 use native.Mathlib.Omega.{arith}
 use lib.ListN.{length}
+use lib.Dec.{lit≤}
 use Rattle.refusal.specs.Refusal.{Answer, given, turnedAway, answer, unlessRefused, firstMet}
 use Rattle.refusal.specs.declared.Refusal.{Refusal}
-use Rattle.refusal.proofs.Conditions.{none-met}
+use Rattle.refusal.proofs.Conditions.{Numbered, none-met}
 use Rattle.refusal.proofs.Handing.{handed-on, kept}
 use Rattle.raster.specs.Raster.{plus}
 use Rattle.raster.specs.Window.{frameConditions}
 use Rattle.raster.specs.declared.window.Window.{Window}
-use Rattle.raster.proofs.Frames.{frame}
+use Rattle.raster.proofs.Frames.{frame, frame-numbered}
 use Rattle.raster.proofs.Over.{Bytes}
 use Rattle.line.specs.Line.{endsOut}
 use Rattle.line.specs.Drawing.{lineConditions, lineCount, lineRaster}
@@ -20,6 +21,10 @@ use Rattle.line.specs.Walk.{Visible, stepPixels}
 use Rattle.line.specs.declared.ends.Ends.{Ends}
 use Rattle.line.specs.declared.visible.Steps.{Steps}
 use Rattle.line.proofs.Whole.{count-visible, raster-visible, raster-unseen}
+
+-- the numbers of a drawer's conditions
+pub line-numbered : (e : Ends) (w : Window) (n : ℕ) → Numbered (lineConditions e w n)
+line-numbered e w n = (lit≤ tt, frame-numbered w n)
 
 module _ (e : Ends) (w : Window) (s : List ℕ) where
   abbrev pub number : ℕ

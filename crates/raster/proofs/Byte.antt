@@ -10,6 +10,7 @@ use lib.ListN.{getD}
 use Rattle.counting.specs.Count.{one, any}
 use Rattle.counting.proofs.Boolean.{clash, never}
 use Rattle.counting.proofs.Any.{any-make}
+use Rattle.counting.proofs.Counted.{one-most}
 use Rattle.raster.specs.Raster.{worth, bit, byte}
 
 -- a statement of each number below 8 is eight statements
@@ -23,10 +24,6 @@ below-eight P a b c d e f g h (suc (suc (suc (suc (suc zero))))) l = f
 below-eight P a b c d e f g h (suc (suc (suc (suc (suc (suc zero)))))) l = g
 below-eight P a b c d e f g h (suc (suc (suc (suc (suc (suc (suc zero))))))) l = h
 below-eight P a b c d e f g h (suc (suc (suc (suc (suc (suc (suc (suc n)))))))) l = absurd (omega arith)
-
-one-le : (b : Bool) → one b ≤ 1
-one-le true = omega arith
-one-le false = omega arith
 
 -- the test of a bit, and the bit as a number
 one-odd : (x : ℕ) → x < 2 → one (eqb x 1) ≡ x
@@ -66,20 +63,20 @@ byte-ext f g h =
 pub byte-lt : (f : ℕ → Bool) → byte f < 256
 unfolding byte
 byte-lt f =
-    omega (arith, one-le (f 0), one-le (f 1), one-le (f 2), one-le (f 3), one-le (f 4), one-le (f 5), one-le (f 6), one-le (f 7))
+    omega (arith, one-most (f 0), one-most (f 1), one-most (f 2), one-most (f 3), one-most (f 4), one-most (f 5), one-most (f 6), one-most (f 7))
 
 -- the bits of a byte are those that it was put together from
 pub bit-byte : (f : ℕ → Bool) (k : ℕ) → k < 8 → bit (byte f) k ≡ f k
 unfolding byte bit worth
 bit-byte f =
-    let h0 = one-le (f 0) in
-    let h1 = one-le (f 1) in
-    let h2 = one-le (f 2) in
-    let h3 = one-le (f 3) in
-    let h4 = one-le (f 4) in
-    let h5 = one-le (f 5) in
-    let h6 = one-le (f 6) in
-    let h7 = one-le (f 7) in
+    let h0 = one-most (f 0) in
+    let h1 = one-most (f 1) in
+    let h2 = one-most (f 2) in
+    let h3 = one-most (f 3) in
+    let h4 = one-most (f 4) in
+    let h5 = one-most (f 5) in
+    let h6 = one-most (f 6) in
+    let h7 = one-most (f 7) in
     below-eight (λ k. bit (byte f) k ≡ f k)
     (odd-is (byte f / worth 0 % 2) (f 0) (omega arith))
     (odd-is (byte f / worth 1 % 2) (f 1) (omega arith))

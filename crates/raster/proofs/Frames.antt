@@ -14,7 +14,7 @@ use Rattle.coordinate.specs.Coordinate.{highest, outOfRange, biased}
 use Rattle.coordinate.proofs.Difference.{Diff, diff-plus, diff-less, diff-lt, diff-nlt}
 use Rattle.coordinate.proofs.Bias.{diff-biased}
 use Rattle.refusal.specs.Refusal.{firstMet}
-use Rattle.refusal.proofs.Conditions.{none-met, append-none}
+use Rattle.refusal.proofs.Conditions.{Numbered, none-met, append-none}
 use Rattle.raster.specs.Raster.{rowBytes}
 use Rattle.raster.specs.Window.{sideOut, sizeOut, last, sidePlaceOut, placeOut, lengthOff, windowConditions, frameConditions}
 use Rattle.raster.specs.declared.window.Window.{Window}
@@ -93,6 +93,10 @@ frame w n e =
       place = placed w (q .0);
       shape = record { wide = z .width-min; length-is = eqb-true n _ (not-false _ (r .0)) };
     }
+
+-- the numbers of its conditions
+pub frame-numbered : (w : Window) (n : ℕ) → Numbered (frameConditions w n)
+frame-numbered w n = (lit≤ tt, (lit≤ tt, (lit≤ tt, tt)))
 
 -- a frame's window is within its limits
 pub window-in : (w : Window) (n : ℕ) → firstMet (frameConditions w n) ≡ 0 → firstMet (windowConditions w) ≡ 0

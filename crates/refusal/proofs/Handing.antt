@@ -1,6 +1,6 @@
 -- An operation hands a check's refusal on: its answer is then that refusal, and its buffers stay as they were.
 use Prim.Native.Nat.{ℕ, zero, suc}
-use mathlib.Core.Bool.{Bool, true}
+use mathlib.Core.Bool.{Bool, true, cond}
 use mathlib.Core.List.{List, _++_}
 use mathlib.Core.Path.{_≡_, refl, sym, ap, _∙_}
 use mathlib.Core.Logic.{_⊎_, inl, inr}
@@ -36,32 +36,11 @@ module _ {B : Type 0} (b : B) where
   instead-answer zero a = refl
   instead-answer (suc n) a = refl
 
--- every refusal has a number
-turned-number : (r : Refusal) → numberOf (turnedAway {A = Unit} r) ≡ 0 → ⊥
-turned-number Ends e = omega arith
-turned-number Size e = omega arith
-turned-number Place e = omega arith
-turned-number RasterLength e = omega arith
-turned-number ListLength e = omega arith
-turned-number Rows e = omega arith
-turned-number RunCount e = omega arith
-turned-number (Run place) e = omega arith
-turned-number Input e = omega arith
-
-pub turned-refused : (A : Type 0) (r : Refusal) → isRefused (turnedAway {A = A} r) ≡ true
-turned-refused A Ends = refl
-turned-refused A Size = refl
-turned-refused A Place = refl
-turned-refused A RasterLength = refl
-turned-refused A ListLength = refl
-turned-refused A Rows = refl
-turned-refused A RunCount = refl
-turned-refused A (Run place) = refl
-turned-refused A Input = refl
-
 -- a refusal's answer is its number, with the place where it has one
-pub turned-is : (A : Type 0) (r : Refusal)
-    → ((turnedAway {A = A} r ≡ refused (number r)) × (place r ≡ 0)) ⊎ (turnedAway {A = A} r ≡ refusedAt (number r) (place r))
+abbrev pub Turned : Type 0 → Refusal → Type 0
+Turned A r = ((turnedAway {A = A} r ≡ refused (number r)) × (place r ≡ 0)) ⊎ (turnedAway {A = A} r ≡ refusedAt (number r) (place r))
+
+pub turned-is : (A : Type 0) (r : Refusal) → Turned A r
 turned-is A Ends = inl (refl, refl)
 turned-is A Size = inl (refl, refl)
 turned-is A Place = inl (refl, refl)
@@ -72,13 +51,25 @@ turned-is A RunCount = inl (refl, refl)
 turned-is A (Run at) = inr refl
 turned-is A Input = inl (refl, refl)
 
-pub number-is : (A : Type 0) (r : Refusal) → numberOf (turnedAway {A = A} r) ≡ number r
-number-is A r = go (turned-is A r)
-  where
-    go : ((turnedAway {A = A} r ≡ refused (number r)) × (place r ≡ 0)) ⊎ (turnedAway {A = A} r ≡ refusedAt (number r) (place r))
-        → numberOf (turnedAway {A = A} r) ≡ number r
-    go (inl q) = ap numberOf (q .0)
-    go (inr q) = ap numberOf q
+module _ (A : Type 0) (r : Refusal) where
+  pub number-is : numberOf (turnedAway {A = A} r) ≡ number r
+  number-is = go (turned-is A r)
+    where
+      go : Turned A r → numberOf (turnedAway {A = A} r) ≡ number r
+      go (inl q) = ap numberOf (q .0)
+      go (inr q) = ap numberOf q
+
+  pub turned-refused : isRefused (turnedAway {A = A} r) ≡ true
+  turned-refused = go (turned-is A r)
+    where
+      go : Turned A r → isRefused (turnedAway {A = A} r) ≡ true
+      go (inl q) = ap isRefused (q .0)
+      go (inr q) = ap isRefused q
+
+-- so it is never a given one
+not-given : (r : Refusal) → turnedAway {A = Unit} r ≡ given tt → ⊥
+not-given r e =
+    let z : _≡_ {A = ℕ} 0 1 = ap (λ (t : Bool). cond t 0 1) (sym (turned-refused Unit r) ∙ ap isRefused e) in omega arith
 
 -- what a check's answer says of the number that it tested
 module _ (check : Check) (n : ℕ) (told : checked check ≡ answer n tt) where
@@ -102,7 +93,7 @@ module _ {A : Type 0} (r : Refusal) where
   handed-back n a e = sym (instead-turned tt A r) ∙ ap (instead tt) e ∙ instead-answer tt n a
 
   pub kept : (n : ℕ) (work start : A) → _≡_ {A = Answer Unit} (turnedAway r) (answer n tt) → start ≡ unlessRefused n work start
-  kept zero work start e = absurd (turned-number r (ap numberOf e))
+  kept zero work start e = absurd (not-given r e)
   kept (suc n) work start e = refl
 
 -- the number of a longer list of conditions is then the same
@@ -111,7 +102,7 @@ pub same-number : (r : Refusal) (cs ds : List (ℕ × Bool)) → _≡_ {A = Answ
 same-number r cs ds e = go (firstMet cs) refl e
   where
     go : (n : ℕ) → firstMet cs ≡ n → _≡_ {A = Answer Unit} (turnedAway r) (answer n tt) → firstMet (cs ++ ds) ≡ firstMet cs
-    go zero q f = absurd (turned-number r (ap numberOf f))
+    go zero q f = absurd (not-given r f)
     go (suc n) q f = append-met n cs ds q ∙ sym q
 
 -- so an operation with further conditions answers it too

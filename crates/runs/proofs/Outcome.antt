@@ -7,7 +7,7 @@ use mathlib.Core.Option.{Option, none, some}
 use native.Mathlib.Omega.{arith}
 use lib.IntN.{ℤ}
 use lib.ListN.{length}
-use lib.Dec.{ltb, lit≤}
+use lib.Dec.{ltb}
 use borrow.Author.Tests.{lt-ltb, le-ltb}
 use Rattle.refusal.specs.Refusal.{Answer, refused, turnedAway, answer, firstMet}
 use Rattle.refusal.specs.declared.Refusal.{Refusal}
@@ -17,6 +17,7 @@ use Rattle.refusal.proofs.Conditions.{met, unmet, append-passed}
 use Rattle.refusal.proofs.Handing.{handed-on, kept, same-number}
 use Rattle.raster.specs.Window.{frameConditions}
 use Rattle.raster.specs.declared.window.Window.{Window}
+use Rattle.raster.proofs.Frames.{frame-numbered}
 use Rattle.runs.specs.Painting.{paintConditions, painted, unlessBad}
 use Rattle.runs.specs.Parts.{badCheck}
 
@@ -56,7 +57,7 @@ module _ (w : Window) (n : ℕ) (list : List ℤ) (count : ℕ) where
   pub all-passed : firstMet frame ≡ 0 → 3 * count ≤ length list → firstMet (paintConditions w n list count) ≡ 0
   unfolding firstMet
   all-passed e l =
-      append-passed frame seven (lit≤ tt, (lit≤ tt, (lit≤ tt, tt))) e ∙ unmet 7 (ltb (length list) (3 * count)) [] (le-ltb _ _ l)
+      append-passed frame seven (frame-numbered w n) e ∙ unmet 7 (ltb (length list) (3 * count)) [] (le-ltb _ _ l)
 
   module _ (bad : Option ℕ) (total : ℕ) (work start : List ℕ) where
     -- 2, 3 or 4
@@ -75,7 +76,7 @@ module _ (w : Window) (n : ℕ) (list : List ℤ) (count : ℕ) where
         × (start ≡ unlessBad (firstMet (paintConditions w n list count)) bad work start)
     count-refused e l =
         rw
-        (append-passed frame seven (lit≤ tt, (lit≤ tt, (lit≤ tt, tt))) e ∙ met 7 (ltb (length list) (3 * count)) [] (lt-ltb _ _ l))
+        (append-passed frame seven (frame-numbered w n) e ∙ met 7 (ltb (length list) (3 * count)) [] (lt-ltb _ _ l))
         (refl, refl)
 
     -- 8

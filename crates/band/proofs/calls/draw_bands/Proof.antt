@@ -5,9 +5,10 @@ use native.Mathlib.Omega.{arith}
 use lib.ListN.{length}
 use borrow.Author.Needs.{needs}
 use Rattle.counting.specs.Count.{one}
+use Rattle.counting.proofs.Counted.{one-most}
 use Rattle.refusal.specs.Refusal.{Answer, isRefused}
 use Rattle.raster.specs.Drawn.{drawn}
-use Rattle.band.proofs.CallLaws.{one-most, bands-length, Called, called-none, called-on, called-all}
+use Rattle.band.proofs.CallLaws.{bands-length, Called, called-none, called-on, called-all}
 use Rattle.band.proofs.calls.draw_bands.Statement.{statement}
 use Rattle.band.proofs.calls.draw_bands.Tie as tie
 

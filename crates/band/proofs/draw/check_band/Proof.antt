@@ -3,11 +3,11 @@ use borrow.Author.Needs.{needs}
 use Prim.Native.Nat.{ℕ}
 use mathlib.Core.Path.{_≡_, sym, ap, _∙_}
 use mathlib.Core.List.{[], _∷_}
-use lib.Dec.{lit≤}
 use Rattle.refusal.specs.Refusal.{firstMet, answer}
 use Rattle.refusal.proofs.Conditions.{met, unmet, append-passed}
 use Rattle.refusal.proofs.Handing.{refused-by, passed-by, handed-more}
 use Rattle.line.specs.Drawing.{lineConditions}
+use Rattle.line.proofs.Drawn.{line-numbered}
 use Rattle.band.specs.Drawing.{bandOut, bandConditions}
 use Rattle.band.proofs.draw.check_band.Statement.{statement}
 use Rattle.band.proofs.draw.check_band.Tie as tie
@@ -36,7 +36,7 @@ module _ (c : tie.After-band-out) where
   last-decides =
       let after = c .before .before .before in
       let a = after .before .args in
-      append-passed (lineConditions (a .ends) (a .window) (a .length)) _ (lit≤ tt, (lit≤ tt, (lit≤ tt, (lit≤ tt, tt))))
+      append-passed (lineConditions (a .ends) (a .window) (a .length)) _ (line-numbered (a .ends) (a .window) (a .length))
       (passed-by (after .check-line .result) (firstMet (lineConditions (a .ends) (a .window) (a .length))) (after .check-line .ensures) (c .before .enum-told .given .1))
 
 band-out-requires : tie.Need-band-out-requires
