@@ -31,9 +31,10 @@ typedef struct { int32_t x0, y0, x1, y1; } tc_ends;
 /* The part of the frame that a raster shows: its first column and row, its width and height in pixels. */
 typedef struct { int32_t left, top; uint32_t width, height; } tc_window;
 
-/* A drawing: 0 or the refusal's number; at 8 the place of the first bad run, from 0, else 0; the number of pixels, 0 where
- * refused. */
-typedef struct { uint32_t refused, place; uint64_t count; } tc_drawn;
+/* A drawing: 0 or the refusal's number; at 8 the place of the first bad run, from 0, else 0; the number of pixels; `fresh`, how
+ * many of these pixels were unmarked at the call, each counted once. After the call the window has that many more marked pixels
+ * than before. Both counts are 0 where refused. */
+typedef struct { uint32_t refused, place; uint64_t count, fresh; } tc_drawn;
 
 /* A listing: 0 or the refusal's number; the axis, 0 for x and 1 for y; the number of runs. Axis and runs are 0 where refused. */
 typedef struct { uint32_t refused, axis, runs; } tc_listed;
@@ -48,13 +49,14 @@ typedef struct { size_t place, len; } tc_part;
 /* Whether a window is within the limits: 0, or 2 or 3. */
 uint32_t tc_window_check(int32_t left, int32_t top, uint32_t width, uint32_t height);
 
-/* Marks the line's pixels that lie in the window, and answers how many they are. Refuses 1, 2, 3, 4. The second one goes two
- * steps at a time; both mark and answer the same. */
+/* Marks the line's pixels that lie in the window, and answers how many they are and how many are fresh. Refuses 1, 2, 3, 4. The
+ * second one goes two steps at a time; both mark and answer the same. */
 tc_drawn tc_draw_single(tc_ends ends, tc_window window, uint8_t *raster, size_t len);
 tc_drawn tc_draw_double(tc_ends ends, tc_window window, uint8_t *raster, size_t len);
 
 /* Marks the line's pixels in the window's rows from `first` up to, but without, first + rows, counted from 0 at the window's
- * top, and answers how many they are. `raster` is the whole window's; only the band's rows are written. Refuses 1, 2, 3, 4, 6. */
+ * top, and answers how many they are and how many are fresh. `raster` is the whole window's; only the band's rows are written.
+ * Refuses 1, 2, 3, 4, 6. */
 tc_drawn tc_draw_band(tc_ends ends, tc_window window, uint32_t first, uint32_t rows, uint8_t *raster, size_t len);
 
 /* Writes the line's runs, three numbers to a run (short coordinate, lowest long coordinate, number of pixels), in the line's
@@ -62,8 +64,8 @@ tc_drawn tc_draw_band(tc_ends ends, tc_window window, uint32_t first, uint32_t r
 tc_listed tc_list_runs(tc_ends ends, int32_t *list, size_t len);
 
 /* Marks the pixels of a list's first `count` runs that lie in the window, and answers their sum over the runs, an overlap
- * counted each time. Axis 0 is x, any other is y. Numbers after the counted runs are not looked at. All runs are checked before
- * the first bit changes. Refuses 2, 3, 4, 7, 8. */
+ * counted each time, and how many are fresh, an overlap counted once. Axis 0 is x, any other is y. Numbers after the
+ * counted runs are not looked at. All runs are checked before the first bit changes. Refuses 2, 3, 4, 7, 8. */
 tc_drawn tc_paint_runs(uint32_t axis, uint32_t count, const int32_t *list, size_t list_len, tc_window window, uint8_t *raster,
                        size_t len);
 

@@ -35,6 +35,14 @@ struct Drawn {
     refused: u32,
     place: u32,
     count: u64,
+    fresh: u64,
+}
+
+/// The counts of a drawing: its pixels in the window, and how many of them were unmarked.
+#[derive(Clone, Copy, Debug, PartialEq)]
+pub struct Marks {
+    pub count: u64,
+    pub fresh: u64,
 }
 
 #[repr(C)]
@@ -70,23 +78,26 @@ extern "C" {
     fn memchr(bytes: *const c_void, byte: c_int, len: usize) -> *const c_void;
 }
 
-/// The count of a drawing. Every input here is lawful, so a refusal is a fault of this program.
-fn count_of(drawn: Drawn) -> u64 {
+/// The counts of a drawing. Every input here is lawful, so a refusal is a fault of this program.
+fn marks_of(drawn: Drawn) -> Marks {
     assert_eq!(drawn.refused, 0, "refused at place {}", drawn.place);
-    drawn.count
+    Marks {
+        count: drawn.count,
+        fresh: drawn.fresh,
+    }
 }
 
-pub fn draw_single(ends: Ends, window: Window, raster: &mut [u8]) -> u64 {
-    count_of(unsafe { tc_draw_single(ends, window, raster.as_mut_ptr(), raster.len()) })
+pub fn draw_single(ends: Ends, window: Window, raster: &mut [u8]) -> Marks {
+    marks_of(unsafe { tc_draw_single(ends, window, raster.as_mut_ptr(), raster.len()) })
 }
 
-pub fn draw_double(ends: Ends, window: Window, raster: &mut [u8]) -> u64 {
-    count_of(unsafe { tc_draw_double(ends, window, raster.as_mut_ptr(), raster.len()) })
+pub fn draw_double(ends: Ends, window: Window, raster: &mut [u8]) -> Marks {
+    marks_of(unsafe { tc_draw_double(ends, window, raster.as_mut_ptr(), raster.len()) })
 }
 
-pub fn draw_band(ends: Ends, window: Window, first: u32, rows: u32, raster: &mut [u8]) -> u64 {
+pub fn draw_band(ends: Ends, window: Window, first: u32, rows: u32, raster: &mut [u8]) -> Marks {
     let (start, len) = (raster.as_mut_ptr(), raster.len());
-    count_of(unsafe { tc_draw_band(ends, window, first, rows, start, len) })
+    marks_of(unsafe { tc_draw_band(ends, window, first, rows, start, len) })
 }
 
 /// The axis (0: x, 1: y) and the number of runs.
@@ -96,10 +107,10 @@ pub fn list_runs(ends: Ends, list: &mut [i32]) -> (u32, u32) {
     (listed.axis, listed.runs)
 }
 
-pub fn paint_runs(axis: u32, count: u32, list: &[i32], window: Window, raster: &mut [u8]) -> u64 {
+pub fn paint_runs(axis: u32, count: u32, list: &[i32], window: Window, raster: &mut [u8]) -> Marks {
     let (runs, runs_len) = (list.as_ptr(), list.len());
     let (start, len) = (raster.as_mut_ptr(), raster.len());
-    count_of(unsafe { tc_paint_runs(axis, count, runs, runs_len, window, start, len) })
+    marks_of(unsafe { tc_paint_runs(axis, count, runs, runs_len, window, start, len) })
 }
 
 /// The first marked pixel's column and row.

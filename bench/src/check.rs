@@ -1,22 +1,31 @@
 //! What is compared before the timing: contestants that do the same work must leave the same bytes.
 use crate::byhand;
-use crate::byhand::bytes::{fill_masked_runs, fill_runs};
+use crate::byhand::bytes::{fill_masked_runs, fill_masked_runs_counted, fill_runs};
 use crate::c::{self, Ends, Window};
 use crate::clock::Buffers;
 use crate::drawers::DRAWERS;
 use crate::lines::FRAME;
-use crate::outside::draw_all;
+use crate::outside::{draw_all, single};
 use crate::spans::paint;
 
-/// Every drawer leaves the same raster, and answers the same count for each line.
+fn marked(raster: &[u8]) -> u64 {
+    raster.iter().map(|byte| u64::from(byte.count_ones())).sum()
+}
+
+/// Every drawer leaves the same raster, and answers the same count for each line. The new pixels of all lines, where a drawer
+/// counts them, are as many as are marked in the end.
 pub fn drawers(lines: &[Ends], buffers: &mut Buffers) {
     let mut first = None;
     for drawer in DRAWERS {
         buffers.raster.fill(0);
-        let counts: Vec<u64> = lines.iter().map(|&ends| drawer.draw(ends, buffers)).collect();
+        let (counts, fresh): (Vec<u64>, Vec<Option<u64>>) =
+            lines.iter().map(|&ends| drawer.draw(ends, buffers)).unzip();
         let drawn = (buffers.raster.clone(), counts);
         let same = first.get_or_insert_with(|| drawn.clone()) == &drawn;
         assert!(same, "{} differs", drawer.name());
+        let fresh: Option<u64> = fresh.into_iter().sum();
+        let same = fresh.is_none_or(|fresh| fresh == marked(&buffers.raster));
+        assert!(same, "{} differs in the new pixels", drawer.name());
     }
 }
 
@@ -32,7 +41,7 @@ pub fn lister(lines: &[Ends], buffers: &mut Buffers) {
     }
 }
 
-/// Painting and both ways of memset leave the same raster.
+/// Painting and all ways of memset leave the same raster.
 pub fn spans(list: &[i32], buffers: &mut Buffers) {
     buffers.raster.fill(0);
     let library = paint(list, &mut buffers.raster);
@@ -41,10 +50,16 @@ pub fn spans(list: &[i32], buffers: &mut Buffers) {
         buffers.raster.fill(0);
         let by_hand = fill(list, FRAME, &mut buffers.raster);
         assert!(
-            library == by_hand && painted == buffers.raster,
+            library.count == by_hand && painted == buffers.raster,
             "painter and memset differ"
         );
     }
+    buffers.raster.fill(0);
+    let counted = fill_masked_runs_counted(list, FRAME, &mut buffers.raster);
+    assert!(
+        library == counted && painted == buffers.raster,
+        "painter and counting memset differ"
+    );
 }
 
 /// The searches find nothing in an empty frame, and the frame's last pixel where it alone is marked.
@@ -69,7 +84,7 @@ fn places(raster: &[u8]) -> [Option<usize>; 3] {
 /// In a small window single step and the hand-written drawer with window tests leave the same raster and count.
 pub fn outside(lines: &[Ends], window: Window, buffers: &mut Buffers) {
     buffers.raster.fill(0);
-    let library = draw_all(lines, window, &mut buffers.raster, c::draw_single);
+    let library = draw_all(lines, window, &mut buffers.raster, single);
     let drawn = buffers.raster.clone();
     buffers.raster.fill(0);
     let by_hand = draw_all(lines, window, &mut buffers.raster, byhand::draw::draw_tested);

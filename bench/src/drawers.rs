@@ -1,7 +1,7 @@
 //! The drawers, by the library and by hand, on the frame's lines of each kind.
 use crate::byhand;
 use crate::byhand::line::Line;
-use crate::c::{self, Ends};
+use crate::c::{self, Ends, Marks};
 use crate::clock::{Buffers, Clock, Contestant};
 use crate::lines::{Kind, FRAME, KINDS, LINES};
 use crate::table::{markdown, Asked, Row};
@@ -9,6 +9,7 @@ use crate::table::{markdown, Asked, Row};
 #[derive(Clone, Copy)]
 pub enum Drawer {
     ByBits,
+    ByBitsCounted,
     ByPixels,
     Tested,
     Single,
@@ -20,19 +21,33 @@ pub enum Drawer {
     Bands1,
 }
 
-use Drawer::{Bands1, Bands16, Bands256, Bands64, ByBits, ByPixels, Double, ListPaint, Single, Tested};
+use Drawer::{Bands1, Bands16, Bands256, Bands64, ByBits, ByBitsCounted, ByPixels, Double, ListPaint, Single, Tested};
 
-pub const DRAWERS: [Drawer; 10] = [
-    ByBits, ByPixels, Tested, Single, Double, ListPaint, Bands256, Bands64, Bands16, Bands1,
+pub const DRAWERS: [Drawer; 11] = [
+    ByBits,
+    ByBitsCounted,
+    ByPixels,
+    Tested,
+    Single,
+    Double,
+    ListPaint,
+    Bands256,
+    Bands64,
+    Bands16,
+    Bands1,
 ];
 
 /// The hand-written drawer that the others are held against: the fastest one without window tests.
 const BASE: Drawer = ByBits;
 
+/// The same one, which counts the new pixels as the library does.
+const COUNTED_BASE: Drawer = ByBitsCounted;
+
 impl Drawer {
     pub fn name(self) -> &'static str {
         match self {
             ByBits => "by hand, no window tests, bit index",
+            ByBitsCounted => "by hand, no window tests, bit index, new pixels counted",
             ByPixels => "by hand, no window tests, column and row",
             Tested => "by hand, a window test at each pixel",
             Single => "single step",
@@ -45,13 +60,14 @@ impl Drawer {
         }
     }
 
-    /// Draws a line in the frame, and answers the number of its pixels.
-    pub fn draw(self, ends: Ends, buffers: &mut Buffers) -> u64 {
+    /// Draws a line in the frame, and answers the number of its pixels, and of the new ones where the drawer counts them.
+    pub fn draw(self, ends: Ends, buffers: &mut Buffers) -> (u64, Option<u64>) {
         let raster = &mut buffers.raster;
-        match self {
-            ByBits => byhand::draw::draw_by_bits(ends, FRAME, raster),
-            ByPixels => byhand::draw::draw_by_pixels(ends, FRAME, raster),
-            Tested => byhand::draw::draw_tested(ends, FRAME, raster),
+        let marks = match self {
+            ByBits => return (byhand::draw::draw_by_bits(ends, FRAME, raster), None),
+            ByPixels => return (byhand::draw::draw_by_pixels(ends, FRAME, raster), None),
+            Tested => return (byhand::draw::draw_tested(ends, FRAME, raster), None),
+            ByBitsCounted => byhand::draw::draw_by_bits_counted(ends, FRAME, raster),
             Single => c::draw_single(ends, FRAME, raster),
             Double => c::draw_double(ends, FRAME, raster),
             ListPaint => list_and_paint(ends, buffers),
@@ -59,25 +75,37 @@ impl Drawer {
             Bands64 => in_bands(64, ends, raster),
             Bands16 => in_bands(16, ends, raster),
             Bands1 => in_bands(1, ends, raster),
-        }
+        };
+        (marks.count, Some(marks.fresh))
+    }
+
+    /// Draws all lines, and answers a number made of all counts.
+    fn draw_all(self, lines: &[Ends], buffers: &mut Buffers) -> u64 {
+        let counts = |&ends: &Ends| {
+            let (count, fresh) = self.draw(ends, buffers);
+            count + fresh.unwrap_or(0)
+        };
+        lines.iter().map(counts).sum()
     }
 }
 
-fn list_and_paint(ends: Ends, buffers: &mut Buffers) -> u64 {
+fn list_and_paint(ends: Ends, buffers: &mut Buffers) -> Marks {
     let (axis, runs) = c::list_runs(ends, &mut buffers.list);
     c::paint_runs(axis, runs, &buffers.list, FRAME, &mut buffers.raster)
 }
 
 /// Calls the band drawer for every band of the frame, from the top.
-fn in_bands(rows: u32, ends: Ends, raster: &mut [u8]) -> u64 {
-    let mut count = 0;
+fn in_bands(rows: u32, ends: Ends, raster: &mut [u8]) -> Marks {
+    let mut sums = Marks { count: 0, fresh: 0 };
     let mut first = 0;
     while first < FRAME.height {
         let rows = rows.min(FRAME.height - first);
-        count += c::draw_band(ends, FRAME, first, rows, raster);
+        let marks = c::draw_band(ends, FRAME, first, rows, raster);
+        sums.count += marks.count;
+        sums.fresh += marks.fresh;
         first += rows;
     }
-    count
+    sums
 }
 
 /// The drawers' contestants, by kind and drawer, and the pixels of a kind's lines.
@@ -90,7 +118,7 @@ impl Drawers {
     pub fn enter<'a>(clock: &mut Clock<'a>, lines: &'a [Vec<Ends>; KINDS.len()]) -> Drawers {
         let contestants = KINDS.map(|kind| {
             let lines = &lines[kind as usize];
-            DRAWERS.map(|drawer| clock.add(move |buffers| lines.iter().map(|&ends| drawer.draw(ends, buffers)).sum()))
+            DRAWERS.map(|drawer| clock.add(move |buffers| drawer.draw_all(lines, buffers)))
         });
         let pixels = KINDS.map(|kind| {
             let lines = &lines[kind as usize];
@@ -123,7 +151,7 @@ impl Drawers {
 
     /// Whole lines in the frame, beside the base.
     pub fn frame_table(&self, clock: &Clock) -> String {
-        let drawers = [ByBits, ByPixels, Tested, Single, Double, ListPaint];
+        let drawers = [ByBits, ByBitsCounted, ByPixels, Tested, Single, Double, ListPaint];
         self.table(clock, &drawers, BASE)
     }
 
@@ -164,7 +192,8 @@ impl Drawers {
     pub fn rows(&self, clock: &Clock) -> Vec<Row> {
         let mut rows = Vec::new();
         for drawer in [Single, Double] {
-            rows.extend(KINDS.map(|kind| self.row(clock, kind, drawer, BASE, Asked::AtMost(1.1))));
+            rows.extend(KINDS.map(|kind| self.row(clock, kind, drawer, COUNTED_BASE, Asked::AtMost(1.1))));
+            rows.extend(KINDS.map(|kind| self.row(clock, kind, drawer, BASE, Asked::AtMost(1.25))));
         }
         let flat = Kind::NearHorizontal;
         rows.push(self.row(clock, flat, ListPaint, Single, Asked::AtLeast(5.0)));

@@ -30,6 +30,11 @@ struct Group {
 
 pub struct Outside([Group; KINDS.len()]);
 
+/// A line by single steps: how many pixels it has in the window.
+pub fn single(ends: Ends, window: Window, raster: &mut [u8]) -> u64 {
+    c::draw_single(ends, window, raster).count
+}
+
 /// Draws lines in the window, into the raster's first bytes.
 pub fn draw_all(
     lines: &[Ends],
@@ -43,15 +48,14 @@ pub fn draw_all(
 
 impl Group {
     fn enter<'a>(clock: &mut Clock<'a>, lines: &'a [Ends], raster: &mut [u8]) -> Group {
-        let mut single = |window: Window| {
-            clock.add_repeated(move |buffers| draw_all(lines, window, &mut buffers.raster, c::draw_single))
-        };
+        let mut add =
+            |window: Window| clock.add_repeated(move |buffers| draw_all(lines, window, &mut buffers.raster, single));
         Group {
-            small: single(SMALL),
-            large: single(LARGE),
+            small: add(SMALL),
+            large: add(LARGE),
             by_hand: clock.add(|buffers| draw_all(lines, LARGE, &mut buffers.raster, byhand::draw::draw_tested)),
-            small_pixels: draw_all(lines, SMALL, raster, c::draw_single),
-            large_pixels: draw_all(lines, LARGE, raster, c::draw_single),
+            small_pixels: draw_all(lines, SMALL, raster, single),
+            large_pixels: draw_all(lines, LARGE, raster, single),
         }
     }
 

@@ -1,6 +1,6 @@
 //! Painting long runs along x beside memset over the same bytes.
-use crate::byhand::bytes::{fill_masked_runs, fill_runs};
-use crate::c;
+use crate::byhand::bytes::{fill_masked_runs, fill_masked_runs_counted, fill_runs};
+use crate::c::{self, Marks};
 use crate::clock::{Clock, Contestant, REPEATS};
 use crate::lines::FRAME;
 use crate::table::{Asked, Row};
@@ -8,31 +8,41 @@ use crate::table::{Asked, Row};
 /// The lengths of the runs, in pixels.
 pub const LENGTHS: [i32; 4] = [512, 1024, 2048, 4096];
 
+const MASKED: &str = "memset between masked bytes";
+const COUNTED: &str = "memset between masked bytes, new pixels counted";
+
 /// From this length on a run is long.
 const LONG: i32 = 1024;
 
-/// A list of runs of one length, painted in three ways.
+/// A list of runs of one length, painted in four ways.
 struct Group {
     pixels: i32,
     library: Contestant,
     memset: Contestant,
     masked: Contestant,
+    counted: Contestant,
 }
 
 pub struct Spans(Vec<Group>);
 
 /// Paints a list of runs along x in the frame.
-pub fn paint(list: &[i32], raster: &mut [u8]) -> u64 {
+pub fn paint(list: &[i32], raster: &mut [u8]) -> Marks {
     c::paint_runs(0, list.len() as u32 / 3, list, FRAME, raster)
+}
+
+/// A number made of both counts.
+fn sum(marks: Marks) -> u64 {
+    marks.count + marks.fresh
 }
 
 impl Group {
     fn enter<'a>(clock: &mut Clock<'a>, pixels: i32, list: &'a [i32]) -> Group {
         Group {
             pixels,
-            library: clock.add_repeated(|buffers| paint(list, &mut buffers.raster)),
+            library: clock.add_repeated(|buffers| sum(paint(list, &mut buffers.raster))),
             memset: clock.add_repeated(|buffers| fill_runs(list, FRAME, &mut buffers.raster)),
             masked: clock.add_repeated(|buffers| fill_masked_runs(list, FRAME, &mut buffers.raster)),
+            counted: clock.add_repeated(|buffers| sum(fill_masked_runs_counted(list, FRAME, &mut buffers.raster))),
         }
     }
 
@@ -65,7 +75,8 @@ impl Spans {
             };
             [
                 group.row(clock, group.memset, "memset", asked),
-                group.row(clock, group.masked, "memset between masked bytes", Asked::Shown),
+                group.row(clock, group.masked, MASKED, Asked::Shown),
+                group.row(clock, group.counted, COUNTED, Asked::Shown),
             ]
         };
         self.0.iter().flat_map(rows).collect()

@@ -1,7 +1,8 @@
-//! How the C interface states document 01's answers.
+//! How the C interface states the answers of documents 01 and 02.
 use crate::c::{Drawn, Found, Listed, Part};
 use paper::frame::Pixel;
 use paper::line::Axis;
+use paper::raster::Marks;
 use paper::refusal::Refusal;
 use paper::runs::Listing;
 use std::ops::Range;
@@ -28,16 +29,17 @@ pub fn number(check: Result<(), Refusal>) -> u32 {
     check.err().map_or(0, |refusal| refusal.number)
 }
 
-impl From<Result<u64, Refusal>> for Drawn {
-    fn from(answer: Result<u64, Refusal>) -> Drawn {
-        let (refused, place, count) = match answer {
-            Ok(count) => (0, 0, count),
-            Err(refusal) => (refusal.number, refusal.place, 0),
+impl From<Result<Marks, Refusal>> for Drawn {
+    fn from(answer: Result<Marks, Refusal>) -> Drawn {
+        let (refused, place, marks) = match answer {
+            Ok(marks) => (0, 0, marks),
+            Err(refusal) => (refusal.number, refusal.place, Marks::default()),
         };
         Drawn {
             refused,
             place,
-            count,
+            count: marks.count,
+            fresh: marks.fresh,
         }
     }
 }

@@ -19,13 +19,14 @@ struct TcWindow {
     height: u32,
 }
 
-/// `place` is the first bad run's at 8, else 0; `count` is 0 where refused.
+/// `place` is the first bad run's at 8, else 0; `count` and `fresh` are 0 where refused.
 #[repr(C)]
 #[derive(Clone, Copy, Debug, PartialEq)]
 pub struct Drawn {
     pub refused: u32,
     pub place: u32,
     pub count: u64,
+    pub fresh: u64,
 }
 
 /// `axis` is 0 for x and 1 for y; `axis` and `runs` are 0 where refused.

@@ -1,5 +1,7 @@
 //! One case of each function: the library and the second implementation get the same arguments, and the whole answer, every
-//! element of every lent buffer and the guards are compared.
+//! element of every lent buffer and the guards are compared. The number of new pixels is compared with the bits that the call
+//! changed as well.
+use crate::added::added;
 use crate::answers::{axis_named, axis_number, number};
 use crate::buffer::Lent;
 use crate::c;
@@ -7,9 +9,10 @@ use crate::report::Report;
 use paper::draw::{draw, draw_band, Band};
 use paper::frame::Window;
 use paper::line::Line;
-use paper::raster::{first_marked, row_view};
+use paper::raster::{first_marked, marks, row_view, Marks};
 use paper::runs::{list_runs, paint_runs};
 use paper::text::printed;
+use std::fmt::Debug;
 
 /// Outputs shorter than this are left as they are, and the answer is 0.
 pub const LEAST_ROOM: usize = 110_000;
@@ -41,6 +44,11 @@ impl Stored<'_> {
             list,
         }
     }
+}
+
+/// What a drawer or the painter answers, should answer, and added.
+fn drawn_numbers(answer: c::Drawn, expected: c::Drawn, added: Option<u64>) -> String {
+    format!("  answer {answer:?}\n  expected {expected:?}\n  added {added:?}\n")
 }
 
 pub struct Comparison {
@@ -88,8 +96,11 @@ impl Comparison {
         self.raster.contents()
     }
 
-    /// Two ways to the same raster.
-    pub fn same(&mut self, what: &str, line: &Line, window: Window, one: &[u8], other: &[u8]) {
+    /// Two ways to the same raster or number.
+    pub fn same<T>(&mut self, what: &str, line: &Line, window: Window, one: &T, other: &T)
+    where
+        T: Debug + PartialEq,
+    {
         self.report.case(one == other, || {
             format!(
                 "{what}: {:?} {window:?}\n  {one:?}\n  {other:?}\n",
@@ -98,14 +109,14 @@ impl Comparison {
         });
     }
 
-    /// A drawer on a fresh raster.
-    pub fn draw(&mut self, drawer: Drawer, line: &Line, window: Window, start: &[u8]) {
+    /// A drawer on a raster of its own; hands back the library's counts.
+    pub fn draw(&mut self, drawer: Drawer, line: &Line, window: Window, start: &[u8]) -> Marks {
         self.raster.lend(start);
-        self.draw_again(drawer, line, window);
+        self.draw_again(drawer, line, window)
     }
 
-    /// A drawer on the raster as the case before left it.
-    pub fn draw_again(&mut self, drawer: Drawer, line: &Line, window: Window) {
+    /// A drawer on the raster as the case before left it; hands back the library's counts.
+    pub fn draw_again(&mut self, drawer: Drawer, line: &Line, window: Window) -> Marks {
         let start = self.raster.contents().to_vec();
         self.expect_from(&start);
         let raster = self.raster.again();
@@ -118,12 +129,15 @@ impl Comparison {
             Drawer::Single | Drawer::Double => draw(line, window, &mut self.expected),
             Drawer::Band(band) => draw_band(line, window, band, &mut self.expected),
         });
-        let same = answer == expected && self.raster.holds(&self.expected);
-        self.report.case(same, || {
+        let added = added(window, &start, self.raster.contents());
+        let held = self.raster.holds(&self.expected) && added == Some(answer.fresh);
+        self.report.case(answer == expected && held, || {
             let call = format!("draw {drawer:?} {:?} {window:?}", line.ends);
+            let numbers = drawn_numbers(answer, expected, added);
             let raster = self.raster.tell("raster", &start, &self.expected);
-            format!("{call}\n  answer {answer:?}\n  expected {expected:?}\n{raster}")
+            format!("{call}\n{numbers}{raster}")
         });
+        marks(answer.count, answer.fresh)
     }
 
     /// The lister; hands back the list as the library left it.
@@ -140,17 +154,19 @@ impl Comparison {
         self.list.contents()
     }
 
-    pub fn paint(&mut self, stored: Stored, window: Window, start: &[u8]) {
+    /// The painter; hands back the library's counts.
+    pub fn paint(&mut self, stored: Stored, window: Window, start: &[u8]) -> Marks {
         let Stored { axis, count, list } = stored;
         let mut after = std::mem::take(&mut self.expected);
         after.clear();
         after.extend_from_slice(start);
-        let answer = paint_runs(axis_named(axis), count, list, window, &mut after);
-        self.paint_known(stored, window, start, answer.into(), &after);
+        let expected = paint_runs(axis_named(axis), count, list, window, &mut after);
+        let counts = self.paint_known(stored, window, start, expected.into(), &after);
         self.expected = after;
+        counts
     }
 
-    /// The painter, with an answer and a raster that are known.
+    /// The painter, with an answer and a raster that are known; hands back the library's counts.
     pub fn paint_known(
         &mut self,
         stored: Stored,
@@ -158,17 +174,21 @@ impl Comparison {
         start: &[u8],
         expected: c::Drawn,
         after: &[u8],
-    ) {
+    ) -> Marks {
         let Stored { axis, count, list } = stored;
         let lent = self.list.lend(list);
         let answer = c::paint_runs(axis, count, lent, window, self.raster.lend(start));
+        let added = added(window, start, self.raster.contents());
         let held = self.raster.holds(after) && self.list.holds(list);
-        self.report.case(answer == expected && held, || {
+        let same = answer == expected && added == Some(answer.fresh);
+        self.report.case(same && held, || {
             let call = format!("tc_paint_runs axis {axis} count {count} {window:?}");
+            let numbers = drawn_numbers(answer, expected, added);
             let raster = self.raster.tell("raster", start, after);
             let list = self.list.tell("list", list, list);
-            format!("{call}\n  answer {answer:?}\n  expected {expected:?}\n{list}{raster}")
+            format!("{call}\n{numbers}{list}{raster}")
         });
+        marks(answer.count, answer.fresh)
     }
 
     pub fn row(&mut self, window: Window, start: &[u8], row: u32) {

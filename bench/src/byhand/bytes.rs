@@ -1,5 +1,5 @@
 //! Work on whole bytes: filling runs along x by memset, and looking for a byte.
-use crate::c::Window;
+use crate::c::{Marks, Window};
 
 /// The bits of a byte from bit k on, and those up to and with bit k.
 const FROM: [u8; 8] = [255, 127, 63, 31, 15, 7, 3, 1];
@@ -36,6 +36,37 @@ pub fn fill_masked_runs(list: &[i32], window: Window, raster: &mut [u8]) -> u64 
         pixels += run[2] as u64;
     }
     pixels
+}
+
+/// How many bits are 0. Eight bytes are counted at once, since byte by byte takes several times as long.
+fn zeros(bytes: &[u8]) -> u64 {
+    let (words, rest) = bytes.as_chunks();
+    let in_words: u32 = words.iter().map(|word| u64::from_ne_bytes(*word).count_zeros()).sum();
+    let in_rest: u32 = rest.iter().map(|byte| byte.count_zeros()).sum();
+    u64::from(in_words + in_rest)
+}
+
+/// Sets the bits of a byte, and answers how many of them were 0.
+fn set_counted(byte: &mut u8, bits: u8) -> u64 {
+    let more = bits & !*byte;
+    *byte |= bits;
+    u64::from(more.count_ones())
+}
+
+/// The same as `fill_masked_runs`, and counts the new pixels.
+pub fn fill_masked_runs_counted(list: &[i32], window: Window, raster: &mut [u8]) -> Marks {
+    let mut marks = Marks { count: 0, fresh: 0 };
+    for run in list.chunks_exact(3) {
+        let start = first_bit(run, window);
+        let last = start + run[2] as usize - 1;
+        marks.fresh += set_counted(&mut raster[start / 8], FROM[start % 8]);
+        let between = &mut raster[start / 8 + 1..last / 8];
+        marks.fresh += zeros(between);
+        between.fill(255);
+        marks.fresh += set_counted(&mut raster[last / 8], UP_TO[last % 8]);
+        marks.count += run[2] as u64;
+    }
+    marks
 }
 
 /// The place of the first byte that is not 0.

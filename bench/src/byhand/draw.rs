@@ -1,7 +1,7 @@
 //! Bresenham's line. A drawer checks its line once and then indexes the raster untested, as a loop in C does. The rounding
 //! is the library's: halves go away from the first end.
 use super::line::Line;
-use crate::c::{Ends, Window};
+use crate::c::{Ends, Marks, Window};
 
 /// Marks the bit `bit` of the raster.
 ///
@@ -10,6 +10,20 @@ use crate::c::{Ends, Window};
 #[inline(always)]
 unsafe fn mark(raster: &mut [u8], bit: usize) {
     *raster.get_unchecked_mut(bit / 8) |= 128 >> (bit % 8);
+}
+
+/// Marks the bit `bit` of the raster: 1 if it was 0, else 0. It is done in 32 bits: in 8 the loop takes up to two thirds
+/// longer.
+///
+/// # Safety
+/// The raster has a bit `bit`.
+#[inline(always)]
+unsafe fn mark_counted(raster: &mut [u8], bit: usize) -> u64 {
+    let byte = raster.get_unchecked_mut(bit / 8);
+    let worth = 128_u32 >> (bit % 8);
+    let old = u32::from(*byte);
+    *byte = (old | worth) as u8;
+    u64::from(old & worth == 0)
 }
 
 fn holds(window: Window, x: i32, y: i32) -> bool {
@@ -24,10 +38,10 @@ fn check_inside(ends: Ends, window: Window, raster: &[u8]) {
     assert!(holds(window, ends.x0, ends.y0) && holds(window, ends.x1, ends.y1));
 }
 
-/// Bresenham's loop over a bit index, without window tests. Each arm is a whole sum: with a sum that the arms share the
-/// compiler makes selects of the branch, and the loop takes half as long again.
-pub fn draw_by_bits(ends: Ends, window: Window, raster: &mut [u8]) -> u64 {
-    check_inside(ends, window, raster);
+/// Calls `put` with the bit of each pixel, and answers how many they are. Each arm is a whole sum: with a sum that the arms
+/// share the compiler makes selects of the branch, and the loop takes half as long again.
+#[inline(always)]
+fn each_bit(ends: Ends, window: Window, mut put: impl FnMut(usize)) -> u64 {
     let Line { long, short, steep } = Line::of(ends);
     let row_bits = 8 * window.row_bytes();
     let (right, left) = if ends.x0 < ends.x1 { (1, 0) } else { (0, 1) };
@@ -46,8 +60,7 @@ pub fn draw_by_bits(ends: Ends, window: Window, raster: &mut [u8]) -> u64 {
     let turn = 2 * long - twice;
     let mut step = 0;
     loop {
-        // SAFETY: every pixel of the line lies in the window.
-        unsafe { mark(raster, bit) };
+        put(bit);
         if step == long {
             return u64::from(long) + 1;
         }
@@ -60,6 +73,26 @@ pub fn draw_by_bits(ends: Ends, window: Window, raster: &mut [u8]) -> u64 {
         }
         step += 1;
     }
+}
+
+/// Bresenham's loop over a bit index, without window tests.
+pub fn draw_by_bits(ends: Ends, window: Window, raster: &mut [u8]) -> u64 {
+    check_inside(ends, window, raster);
+    each_bit(ends, window, |bit| {
+        // SAFETY: every pixel of the line lies in the window.
+        unsafe { mark(raster, bit) };
+    })
+}
+
+/// The same, and counts the new pixels.
+pub fn draw_by_bits_counted(ends: Ends, window: Window, raster: &mut [u8]) -> Marks {
+    check_inside(ends, window, raster);
+    let mut fresh = 0;
+    let count = each_bit(ends, window, |bit| {
+        // SAFETY: every pixel of the line lies in the window.
+        fresh += unsafe { mark_counted(raster, bit) };
+    });
+    Marks { count, fresh }
 }
 
 /// Calls `put` with column and row, counted from left and top, of each pixel: Bresenham's loop as it is mostly written.

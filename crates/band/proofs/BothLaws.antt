@@ -13,18 +13,20 @@ use Rattle.refusal.specs.declared.Refusal.{Refusal}
 use Rattle.refusal.proofs.Conditions.{unmet, none-met, append-passed, append-none}
 use Rattle.refusal.proofs.Handing.{handed-on, handed-back, kept, same-number}
 use Rattle.raster.specs.Window.{lengthOff, windowConditions, frameConditions}
-use Rattle.raster.specs.Drawn.{countOf}
+use Rattle.raster.specs.Drawn.{marksOf}
+use Rattle.raster.specs.declared.drawn.Marks.{Marks}
 use Rattle.raster.specs.declared.window.Window.{Window}
 use Rattle.raster.proofs.Frames.{window-in}
 use Rattle.raster.proofs.Over.{Bytes}
 use Rattle.runs.specs.Painting.{paintAnswer, paintAfter}
 use Rattle.line.specs.Line.{short, axis, endsOut}
-use Rattle.line.specs.Drawing.{lineConditions, lineCount, lineRaster}
+use Rattle.line.specs.Drawing.{lineConditions, lineMarks, lineRaster}
 use Rattle.line.specs.Listing.{listConditions, lineList, listAnswer, listAfter}
 use Rattle.line.specs.declared.ends.Ends.{Ends}
 use Rattle.line.proofs.Drawn.{line-numbered}
 use Rattle.line.proofs.RunFacts.{listed-and-painted}
-use Rattle.band.specs.Calls.{afterBands, bandList, refusedCalls}
+use Rattle.band.specs.Calls.{afterBands, bandList, bandCalls}
+use Rattle.band.specs.declared.calls.BandCalls.{BandCalls}
 use Rattle.band.specs.EqualRaster.{EqualRaster}
 use Rattle.band.specs.BothWays.{framesConditions, bothConditions, bothMet, bothAnswer}
 use Rattle.band.specs.declared.both.Both.{Both}
@@ -56,7 +58,7 @@ module _ (e : Ends) (w : Window) (list : List ℤ) (bands s t : List ℕ) where
   number = bothMet e w list s t
 
   -- the answer and the buffers are those that both ways promise
-  abbrev pub Outcome : Answer (Axis × ℕ × ℕ × ℕ) → List ℤ → List ℕ → List ℕ → Type 0
+  abbrev pub Outcome : Answer (Axis × ℕ × Marks × BandCalls) → List ℤ → List ℕ → List ℕ → Type 0
   Outcome a listed painted banded =
       (a ≡ bothAnswer e w list bands s t)
       × ((listed ≡ unlessRefused number (lineList e list) list)
@@ -66,7 +68,7 @@ module _ (e : Ends) (w : Window) (list : List ℤ) (bands s t : List ℕ) where
 
   pub both-refused : (r : Refusal) → _≡_ {A = Answer Unit} (turnedAway r) (answer number tt) → Outcome (turnedAway r) list s t
   both-refused r q = (
-    handed-on r number (axis e, short e + 1, lineCount e w, refusedCalls e w t bands) q,
+    handed-on r number (axis e, short e + 1, lineMarks e w s, bandCalls e w t bands) q,
     (
       kept r number (lineList e list) list q,
       (
@@ -98,9 +100,9 @@ module _ (e : Ends) (w : Window) (list : List ℤ) (bands s t : List ℕ) where
     none = sym (lister-left e w (length s) (length t) h (length list)) ∙ room
 
     pub both-drawn : Bytes s → (listed : List ℤ) (painted banded : List ℕ) (b : Both)
-        → (b .axis ≡ axis e) × (b .runs ≡ short e + 1) × (b .count ≡ lineCount e w) × (b .refused ≡ refusedCalls e w t bands)
+        → (b .axis ≡ axis e) × (b .runs ≡ short e + 1) × (b .painted ≡ lineMarks e w s) × (b .banded ≡ bandCalls e w t bands)
         → listed ≡ listAfter e list → painted ≡ lineRaster e w s → banded ≡ afterBands e w t (bandList bands)
-        → Outcome (given (b .axis, b .runs, b .count, b .refused)) listed painted banded
+        → Outcome (given (b .axis, b .runs, b .painted, b .banded)) listed painted banded
     both-drawn bytes listed painted banded b f p q r =
         let listed-is : listed ≡ lineList e list = p ∙ ap (λ (n : ℕ). unlessRefused n (lineList e list) list) room in (
           rw (f .0, f .1, f .2, f .3, none) refl,
@@ -121,10 +123,10 @@ module _ (e : Ends) (w : Window) (list : List ℤ) (bands s t : List ℕ) where
 
 module _ (e : Ends) (w : Window) (s : List ℕ) (h : firstMet (lineConditions e w (length s)) ≡ 0) (a : Axis) (n : ℕ) (list rest : List ℤ)
     (a-is : a ≡ axis e) (n-is : n ≡ short e + 1) (list-is : list ≡ lineList e rest) where
-  pub painter-counts : (r : Answer ℕ) (k : ℕ) → r ≡ paintAnswer a n list w s → k ≡ countOf r → k ≡ lineCount e w
+  pub painter-counts : (r : Answer Marks) (k : Marks) → r ≡ paintAnswer a n list w s → k ≡ marksOf r → k ≡ lineMarks e w s
   painter-counts r k p q =
-      let answered : paintAnswer a n list w s ≡ given (lineCount e w) = rw (a-is, n-is, list-is) (listed-and-painted e rest w s h .answer-is) in
-      q ∙ ap countOf (p ∙ answered)
+      let answered : paintAnswer a n list w s ≡ given (lineMarks e w s) = rw (a-is, n-is, list-is) (listed-and-painted e rest w s h .answer-is) in
+      q ∙ ap marksOf (p ∙ answered)
 
   pub painter-leaves : (t : List ℕ) → t ≡ paintAfter a n list w s → t ≡ lineRaster e w s
   painter-leaves t p = p ∙ rw (a-is, n-is, list-is) (listed-and-painted e rest w s h .raster-is)

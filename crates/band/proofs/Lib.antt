@@ -3,3 +3,4 @@ pub mod Rows
 pub mod CallLaws
 pub mod EqualRaster
 pub mod BothLaws
+pub mod NewPixels

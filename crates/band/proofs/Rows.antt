@@ -8,13 +8,15 @@ use lib.Seq.{length-take-le}
 use Rattle.refusal.specs.Refusal.{Answer, given, answer, unlessRefused, firstMet}
 use Rattle.raster.specs.Raster.{rowBytes}
 use Rattle.raster.specs.Band.{bandWindow}
+use Rattle.raster.specs.Drawn.{marks}
+use Rattle.raster.specs.declared.drawn.Marks.{Marks}
 use Rattle.raster.specs.declared.window.Window.{Window}
-use Rattle.raster.proofs.Band.{plus-band}
+use Rattle.raster.proofs.Band.{plus-band, fresh-band}
 use Rattle.raster.proofs.Over.{Bytes}
 use Rattle.line.specs.Line.{onLine}
-use Rattle.line.specs.Drawing.{lineConditions, lineCount, lineRaster}
+use Rattle.line.specs.Drawing.{lineConditions, lineFresh, lineMarks, lineRaster}
 use Rattle.line.specs.declared.ends.Ends.{Ends}
-use Rattle.band.specs.Drawing.{bandConditions, bandCount, bandRaster}
+use Rattle.band.specs.Drawing.{bandConditions, bandCount, bandFresh, bandMarks, bandRaster}
 use Rattle.band.proofs.Limits.{rows-passed, frame-passed, band-bytes, band-passed}
 
 module _ (e : Ends) (w : Window) (s : List ℕ) (f n : ℕ) (h : firstMet (bandConditions e w (length s) f n) ≡ 0) where
@@ -40,6 +42,14 @@ module _ (e : Ends) (w : Window) (s : List ℕ) (f n : ℕ) (h : firstMet (bandC
       let rows = rows-passed e w (length s) f n h in
       plus-band w s (onLine e) f n (w .height - (f + n)) (frm .shape) bytes (omega (arith, rows .last))
 
+  -- its new pixels are the band's
+  part-fresh : Bytes s → lineFresh e (bandWindow w f n) part ≡ bandFresh e w s f n
+  unfolding lineFresh bandFresh
+  part-fresh bytes =
+      let frm = frame-passed e w (length s) f n h in
+      let rows = rows-passed e w (length s) f n h in
+      fresh-band w s (onLine e) f n (w .height - (f + n)) (frm .shape) bytes (omega (arith, rows .last))
+
   -- what the drawer answers and leaves there, with the window and the part's numbers as the code has them
   module _ (bytes : Bytes s) (v : Window) (size k : ℕ) (v-is : v ≡ bandWindow w f n) (size-is : size ≡ b) (k-is : k ≡ n * size) where
     abbrev lent : List ℕ
@@ -51,8 +61,11 @@ module _ (e : Ends) (w : Window) (s : List ℕ) (f n : ℕ) (h : firstMet (bandC
     number-is : number ≡ 0
     number-is = rw (v-is, k-is, size-is) part-passed
 
-    pub band-counted : (a : Answer ℕ) → a ≡ answer number (lineCount e v) → a ≡ given (bandCount e w f n)
-    band-counted a p = p ∙ ap (λ (m : ℕ). answer m (lineCount e v)) number-is ∙ ap (λ (u : Window). given (lineCount e u)) v-is
+    pub band-counted : (a : Answer Marks) → a ≡ answer number (lineMarks e v lent) → a ≡ given (bandMarks e w s f n)
+    band-counted a p =
+        p
+        ∙ ap (λ (m : ℕ). answer m (lineMarks e v lent)) number-is
+        ∙ rw (v-is, k-is, size-is) (ap (λ (m : ℕ). given (marks (bandCount e w f n) m)) (part-fresh bytes))
 
     pub band-drawn : (d : List ℕ) → d ≡ unlessRefused number (lineRaster e v lent) lent
         → take (f * size) s ++ (d ++ drop k (drop (f * size) s)) ≡ bandRaster e w f n s

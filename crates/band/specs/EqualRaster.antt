@@ -11,6 +11,8 @@ use Rattle.coordinate.specs.Coordinate.{apart}
 use Rattle.refusal.specs.Refusal.{given, refused}
 use Rattle.raster.specs.Raster.{plus}
 use Rattle.raster.specs.StartPlus.{StartPlus}
+use Rattle.raster.specs.Fresh.{freshCount}
+use Rattle.raster.specs.Drawn.{freshOf}
 use Rattle.raster.specs.declared.window.Window.{Window}
 use Rattle.runs.specs.Run.{runList}
 use Rattle.runs.specs.Painting.{paintAnswer}
@@ -18,10 +20,10 @@ use Rattle.line.specs.Line.{long, short, axis, distance, onLine}
 use Rattle.line.specs.Runs.{pixelsOf, runs}
 use Rattle.line.specs.RunFacts.{RunsAreLine}
 use Rattle.line.specs.Listing.{listAnswer}
-use Rattle.line.specs.Drawing.{lineCount}
+use Rattle.line.specs.Drawing.{lineMarks, drawAnswer}
 use Rattle.line.specs.declared.ends.Ends.{Ends}
-use Rattle.band.specs.Drawing.{bandCount, bandAnswer}
-use Rattle.band.specs.Calls.{Band, afterBands, meets6, bandsOf, EveryRow}
+use Rattle.band.specs.Drawing.{bandMarks, bandAnswer}
+use Rattle.band.specs.Calls.{Band, afterBands, freshCalls, meets6, bandsOf, EveryRow, EachRowOnce}
 
 -- `listed` is the list as the lister left it, `painted` the raster that the painter left, `banded` the one after the bands
 pub record EqualRaster (e : Ends) (w : Window) (start : List ℕ) (list : List ℤ) (bands : List Band)
@@ -31,16 +33,24 @@ pub record EqualRaster (e : Ends) (w : Window) (start : List ℕ) (list : List �
   pub listed-is : listed ≡ runList (runs e) ++ drop (3 * (short e + 1)) list
   pub runs-are-line : RunsAreLine e
   -- the painter, given that list, axis and run count, doesn't refuse: its raster is the start plus exactly the line's pixels
-  pub painter-answers : paintAnswer (axis e) (short e + 1) listed w start ≡ given (lineCount e w)
+  pub painter-answers : paintAnswer (axis e) (short e + 1) listed w start ≡ given (lineMarks e w start)
   pub painted-is : painted ≡ plus w start (onLine e)
   -- after any calls, refused ones among them, a call is refused exactly if its band meets 6
   pub band-answers : (before : List Band) (b : Band)
       → bandAnswer e w (afterBands e w start before) (b .first) (b .rows)
-      ≡ cond (meets6 w b) (refused 6) (given (bandCount e w (b .first) (b .rows)))
+      ≡ cond (meets6 w b) (refused 6) (given (bandMarks e w (afterBands e w start before) (b .first) (b .rows)))
   -- after all calls: the start plus exactly the line's pixels in the rows of the bands not refused
   pub banded-is : banded ≡ plus w start (bandsOf w bands (onLine e))
   -- where these take in every row, both rasters are equal in every byte
   pub equal : EveryRow w bands → painted ≡ banded
+  -- the new pixels of all calls add up to the line's in those rows that are unmarked at the start
+  pub fresh-adds-up : freshCalls e w start bands ≡ freshCount w start (bandsOf w bands (onLine e))
+  -- where the bands take in every row, that is the count of the line drawn whole: in single or double steps, or listed and
+  -- painted
+  pub fresh-of-steps : EveryRow w bands → freshCalls e w start bands ≡ freshOf (drawAnswer e w start)
+  pub fresh-of-painter : EveryRow w bands → freshCalls e w start bands ≡ freshOf (paintAnswer (axis e) (short e + 1) listed w start)
+  -- which they do where they take in each row exactly once
+  pub once-is-every : EachRowOnce w bands → EveryRow w bands
   -- no pixel is further than half a pixel from the exact line, whose short coordinate at step i is i × S / L from the first end
   pub half-pixel : (i : ℕ) → 2 * apart (pos (i * short e)) (pos (long e * distance e i)) ≤ long e
   -- all runs but the first and the last differ in length by at most one

@@ -2,3 +2,4 @@ pub mod Drawing
 pub mod Calls
 pub mod EqualRaster
 pub mod BothWays
+pub mod NewPixels

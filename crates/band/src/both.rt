@@ -1,4 +1,5 @@
 // Drawing a line both ways: listed and painted in one raster, band by band in another.
+use crate::calls::BandCalls;
 use crate::calls::draw_bands;
 use coordinate::Axis;
 use line::draw::check_line;
@@ -6,6 +7,7 @@ use line::ends::Ends;
 use line::list::Listed;
 use line::list::Listing;
 use line::list::list_runs;
+use raster::drawn::Marks;
 use raster::window::Window;
 use refusal::Check;
 use refusal::Refusal;
@@ -18,17 +20,17 @@ ghost use lib.ListN.{length};
 ghost use Rattle.refusal.specs.Refusal.{answer, checked, firstMet, unlessRefused};
 ghost use Rattle.line.specs.Line.{axis, short};
 ghost use Rattle.line.specs.Listing.{lineList};
-ghost use Rattle.line.specs.Drawing.{lineConditions, lineCount, lineRaster};
-ghost use Rattle.band.specs.Calls.{afterBands, bandList, refusedCalls};
+ghost use Rattle.line.specs.Drawing.{lineConditions, lineMarks, lineRaster};
+ghost use Rattle.band.specs.Calls.{afterBands, bandList, bandCalls};
 ghost use Rattle.band.specs.EqualRaster.{EqualRaster};
 ghost use Rattle.band.specs.BothWays.{framesConditions, bothMet, bothAnswer, bothWays};
 
-// The axis and the number of runs that were listed, the painter's sum over the runs, and how many bands were refused.
+// The axis and the number of runs that were listed, the painter's counts, and what the calls of the band drawer add up to.
 pub struct Both {
     pub axis: Axis,
     pub runs: u32,
-    pub count: u64,
-    pub refused: usize,
+    pub painted: Marks,
+    pub banded: BandCalls,
 }
 
 // These, or the refusal.
@@ -59,20 +61,20 @@ fn draw_listed(
     banded: &mut [u8],
 ) -> Both
     requires { ⌜ (firstMet (lineConditions ends window (length (now painted))) ≡ 0) × (listing .axis ≡ axis ends) × (listing .runs ≡ short ends + 1) × ((rest : List ℤ) × (now list ≡ lineList ends rest)) ⌝ }
-    ensures { λ r. ⌜ (r .axis ≡ axis ends) × (r .runs ≡ short ends + 1) × (r .count ≡ lineCount ends window) × (r .refused ≡ refusedCalls ends window (now (banded .entry)) (now (bands .entry))) ⌝ }
+    ensures { λ r. ⌜ (r .axis ≡ axis ends) × (r .runs ≡ short ends + 1) × (r .painted ≡ lineMarks ends window (now (painted .entry))) × (r .banded ≡ bandCalls ends window (now (banded .entry)) (now (bands .entry))) ⌝ }
     ensures { λ _. ⌜ now (painted .exit) ≡ lineRaster ends window (now (painted .entry)) ⌝ }
     ensures { λ _. ⌜ now (banded .exit) ≡ afterBands ends window (now (banded .entry)) (bandList (now (bands .entry))) ⌝ }
 {
     let axis = listing.axis;
     let runs = listing.runs;
     let answer = paint_runs(axis, runs, list, window, painted);
-    let count = answer.count();
-    let refused = draw_bands(ends, window, bands, banded);
+    let marks = answer.marks();
+    let calls = draw_bands(ends, window, bands, banded);
     Both {
         axis,
         runs,
-        count,
-        refused,
+        painted: marks,
+        banded: calls,
     }
 }
 

@@ -10,7 +10,7 @@ ghost use mathlib.Core.Path.{_≡_};
 ghost use lib.ListN.{length};
 ghost use Rattle.refusal.specs.Refusal.{given, answer, checked, firstMet};
 ghost use Rattle.raster.specs.Drawn.{drawn};
-ghost use Rattle.band.specs.Drawing.{bandOut, bandConditions, bandCount, bandRaster, bandAnswer, bandAfter};
+ghost use Rattle.band.specs.Drawing.{bandOut, bandConditions, bandMarks, bandRaster, bandAnswer, bandAfter};
 
 // Whether a band has no rows or ends below the window. The sum is made in 64 bits, where it cannot overflow.
 fn band_out(window: Window, first: u32, rows: u32) -> bool
@@ -36,7 +36,7 @@ fn check_band(ends: Ends, window: Window, first: u32, rows: u32, length: usize) 
 // Draws in the band's rows, a part of the raster, with the window of these rows.
 fn draw_rows(ends: Ends, window: Window, first: u32, rows: u32, raster: &mut [u8]) -> Drawn
     requires { ⌜ firstMet (bandConditions ends window (length (now raster)) first rows) ≡ 0 ⌝ }
-    ensures { λ r. ⌜ drawn r ≡ given (bandCount ends window first rows) ⌝ }
+    ensures { λ r. ⌜ drawn r ≡ given (bandMarks ends window (now (raster .entry)) first rows) ⌝ }
     ensures { λ _. ⌜ now (raster .exit) ≡ bandRaster ends window first rows (now (raster .entry)) ⌝ }
 {
     let bytes = window.row_bytes();
@@ -52,7 +52,7 @@ fn draw_rows(ends: Ends, window: Window, first: u32, rows: u32, raster: &mut [u8
 }
 
 // Marks the line's pixels in the band of `rows` rows from row `first` on, counted from 0 at the window's top, and answers how
-// many they are. Refused (1, 2, 3, 4, 6) it marks none.
+// many they are and how many of them are new. Refused (1, 2, 3, 4, 6) it marks none.
 pub fn draw_band(ends: Ends, window: Window, first: u32, rows: u32, raster: &mut [u8]) -> Drawn
     ensures { λ r. ⌜ drawn r ≡ bandAnswer ends window (now (raster .entry)) first rows ⌝ }
     ensures { λ _. ⌜ now (raster .exit) ≡ bandAfter ends window (now (raster .entry)) first rows ⌝ }

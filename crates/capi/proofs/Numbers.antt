@@ -10,18 +10,19 @@ use Rattle.coordinate.specs.declared.Pixel.{Pixel}
 use Rattle.refusal.specs.Refusal.{turnedAway, number, place}
 use Rattle.refusal.specs.declared.Refusal.{Refusal}
 use Rattle.refusal.proofs.Handing.{Turned, turned-is}
+use Rattle.raster.specs.declared.drawn.Marks.{Marks}
 use Rattle.capi.specs.Answers.{drawnNumbers, listedNumbers, foundNumbers, axisOf}
 use Rattle.capi.specs.declared.answers.TcDrawn.{TcDrawn}
 use Rattle.capi.specs.declared.answers.TcListed.{TcListed}
 use Rattle.capi.specs.declared.answers.TcFound.{TcFound}
 
 module _ (r : Refusal) where
-  pub turned-drawn : _≡_ {A = TcDrawn} (record { refused = number r; place = place r; count = 0 }) (drawnNumbers (turnedAway r))
-  turned-drawn = go (turned-is ℕ r)
+  pub turned-drawn : _≡_ {A = TcDrawn} (record { refused = number r; place = place r; count = 0; fresh = 0 }) (drawnNumbers (turnedAway r))
+  turned-drawn = go (turned-is Marks r)
     where
-      go : Turned ℕ r → _≡_ {A = TcDrawn} (record { refused = number r; place = place r; count = 0 }) (drawnNumbers (turnedAway r))
+      go : Turned Marks r → _≡_ {A = TcDrawn} (record { refused = number r; place = place r; count = 0; fresh = 0 }) (drawnNumbers (turnedAway r))
       go (inl q) =
-          ap (λ (p : ℕ). record { refused = number r; place = p; count = 0 }) (q .1) ∙ sym (ap drawnNumbers (q .0))
+          ap (λ (p : ℕ). record { refused = number r; place = p; count = 0; fresh = 0 }) (q .1) ∙ sym (ap drawnNumbers (q .0))
       go (inr q) = sym (ap drawnNumbers q)
 
   pub turned-listed : _≡_ {A = TcListed} (record { refused = number r; axis = 0; runs = 0 }) (listedNumbers (turnedAway r))

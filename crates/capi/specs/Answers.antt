@@ -9,16 +9,18 @@ use Rattle.refusal.specs.Refusal.{Answer, given, refused, refusedAt, firstMet, 
 use Rattle.raster.specs.Raster.{rowBytes}
 use Rattle.raster.specs.Row.{rowConditions}
 use Rattle.raster.specs.declared.window.Window.{Window}
+use Rattle.raster.specs.declared.drawn.Marks.{Marks}
 use Rattle.capi.specs.declared.answers.TcDrawn.{TcDrawn}
 use Rattle.capi.specs.declared.answers.TcListed.{TcListed}
 use Rattle.capi.specs.declared.answers.TcFound.{TcFound}
 use Rattle.capi.specs.declared.answers.TcPart.{TcPart}
 
--- a drawing: its number of pixels, or the refusal's number, at 8 with the place of the first bad run
-abbrev pub drawnNumbers : Answer ℕ → TcDrawn
-drawnNumbers (given n) = record { refused = 0; place = 0; count = n }
-drawnNumbers (refused k) = record { refused = k; place = 0; count = 0 }
-drawnNumbers (refusedAt k place) = record { refused = k; place = place; count = 0 }
+-- a drawing: its number of pixels and of the new ones among them, or the refusal's number, at 8 with the place of the first
+-- bad run
+abbrev pub drawnNumbers : Answer Marks → TcDrawn
+drawnNumbers (given m) = record { refused = 0; place = 0; count = m .count; fresh = m .fresh }
+drawnNumbers (refused k) = record { refused = k; place = 0; count = 0; fresh = 0 }
+drawnNumbers (refusedAt k place) = record { refused = k; place = place; count = 0; fresh = 0 }
 
 -- the number of an axis, and the axis of a number
 abbrev pub axisNumber : Axis → ℕ

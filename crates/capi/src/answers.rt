@@ -9,12 +9,13 @@ ghost use Rattle.raster.specs.Search.{found};
 ghost use Rattle.line.specs.Listing.{listed};
 ghost use Rattle.capi.specs.Answers.{drawnNumbers, listedNumbers, foundNumbers, axisOf, axisNumber};
 
-// A drawing: the refusal's number, the place of the first bad run at 8, the number of pixels.
+// A drawing: the refusal's number, the place of the first bad run at 8, the number of pixels, and of those newly marked.
 #[repr(C)]
 pub struct TcDrawn {
     pub refused: u32,
     pub place: u32,
     pub count: u64,
+    pub fresh: u64,
 }
 
 // A listing: the refusal's number, the axis (0: x, 1: y), the number of runs.
@@ -50,11 +51,13 @@ pub fn drawn_numbers(answer: Drawn) -> TcDrawn
             refused: 0,
             place: 0,
             count: marks.count,
+            fresh: marks.fresh,
         },
         Drawn::Refused(refusal) => TcDrawn {
             refused: refusal.number(),
             place: refusal.place(),
             count: 0,
+            fresh: 0,
         },
     }
 }

@@ -11,7 +11,8 @@ ghost use Rattle.line.specs.Drawing.{drawAnswer, drawAfter};
 ghost use Rattle.band.specs.Drawing.{bandAnswer, bandAfter};
 ghost use Rattle.capi.specs.Answers.{drawnNumbers};
 
-// Marks the line's pixels in the window and answers how many they are, as `line::draw::draw_single` does.
+// Marks the line's pixels in the window and answers how many they are and how many of them are new, as
+// `line::draw::draw_single` does.
 #[no_mangle]
 pub extern "C" fn tc_draw_single(ends: Ends, window: Window, raster: &mut [u8]) -> TcDrawn
     ensures { λ r. ⌜ r ≡ drawnNumbers (drawAnswer ends window (now (raster .entry))) ⌝ }

@@ -18,6 +18,11 @@ unfolding count
 count-cong zero f g h = refl
 count-cong (suc n) f g h = ap₂ _+_ (count-cong n f g (λ i l. h i (omega arith))) (ap one (h n (omega arith)))
 
+pub count-most : (n : ℕ) (f : ℕ → Bool) → count n f ≤ n
+unfolding count
+count-most zero f = omega arith
+count-most (suc n) f = omega (arith, count-most n f, one-most (f n))
+
 -- the numbers below a, and the b numbers from a on
 pub count-join : (a b : ℕ) (f : ℕ → Bool) → count a f + count b (λ j. f (a + j)) ≡ count (a + b) f
 unfolding count

@@ -1,9 +1,13 @@
--- A sum depends on its terms alone; a count over neighbouring intervals is the sum of the counts in each, in either order.
-use Prim.Native.Nat.{ℕ, zero, suc, _+_, _-_, _<_}
+-- A sum depends on its terms alone and adds term by term; a count over neighbouring intervals is the sum of the counts in
+-- each, in either order.
+use Prim.Native.Nat.{ℕ, zero, suc, _+_, _-_, _*_, _≤_, _<_}
 use mathlib.Core.Path.{_≡_, refl, sym, ap, ap₂, _∙_}
-use mathlib.Core.Bool.{Bool}
+use mathlib.Core.Bool.{Bool, false, _&&_}
 use native.Mathlib.Omega.{arith}
+use native.Mathlib.Nat.{add-zero, add-suc, add-assoc, zero-mul}
 use native.Mathlib.Numerals.{add-one}
+use lib.Dec.{ltb}
+use borrow.Author.Tests.{lt-ltb, le-ltb}
 use Rattle.counting.specs.Count.{one, count, sum}
 use Rattle.counting.proofs.Counted.{count-cong, count-join}
 
@@ -34,3 +38,55 @@ count-back (suc n) f =
     ap (λ (x : ℕ). count x g) (sym one-more)
     ∙ sym (count-join 1 n g)
     ∙ omega (arith, before, ap one last)
+
+-- what adds up at each number adds up in all
+pub count-both : (n : ℕ) (f g h : ℕ → Bool) → ((i : ℕ) → i < n → one (f i) ≡ one (g i) + one (h i)) → count n f ≡ count n g + count n h
+unfolding count
+count-both zero f g h e = refl
+count-both (suc n) f g h e = omega (arith, count-both n f g h (λ i l. e i (omega arith)), e n (omega arith))
+
+pub sum-both : (n : ℕ) (f g h : ℕ → ℕ) → ((i : ℕ) → i < n → f i ≡ g i + h i) → sum n f ≡ sum n g + sum n h
+unfolding sum
+sum-both zero f g h e = refl
+sum-both (suc n) f g h e = omega (arith, sum-both n f g h (λ i l. e i (omega arith)), e n (omega arith))
+
+-- the terms below a, and the b terms from a on
+pub sum-join : (a b : ℕ) (f : ℕ → ℕ) → sum a f + sum b (λ j. f (a + j)) ≡ sum (a + b) f
+unfolding sum
+sum-join a zero f = rw (add-zero a) (add-zero (sum a f))
+sum-join a (suc b) f =
+    rw (add-suc a b)
+    (sym (add-assoc (sum a f) (sum b (λ j. f (a + j))) (f (a + b))) ∙ ap (λ (t : ℕ). t + f (a + b)) (sum-join a b f))
+
+-- h rows of b terms each
+pub sum-rows : (h b : ℕ) (f : ℕ → ℕ) → sum (h * b) f ≡ sum h (λ r. sum b (λ q. f (r * b + q)))
+unfolding sum
+sum-rows zero b f = rw (zero-mul b) refl
+sum-rows (suc h) b f =
+    let more : suc h * b ≡ h * b + b = omega arith in
+    ap (λ (n : ℕ). sum n f) more
+    ∙ sym (sum-join (h * b) b f)
+    ∙ ap (λ (t : ℕ). t + sum b (λ q. f (h * b + q))) (sum-rows h b f)
+
+-- b groups of eight
+pub count-eights : (b : ℕ) (f : ℕ → Bool) → sum b (λ q. count 8 (λ k. f (8 * q + k))) ≡ count (8 * b) f
+count-eights b f = count-sum b (λ q. 8 * q) (λ q. 8) f refl (λ k l. omega arith)
+
+pub count-none : (n : ℕ) (f : ℕ → Bool) → ((i : ℕ) → i < n → f i ≡ false) → count n f ≡ 0
+unfolding count
+count-none zero f h = refl
+count-none (suc n) f h = rw (count-none n f (λ i l. h i (omega arith)), h n (omega arith))
+
+pub sum-none : (n : ℕ) (f : ℕ → ℕ) → ((i : ℕ) → i < n → f i ≡ 0) → sum n f ≡ 0
+unfolding sum
+sum-none zero f h = refl
+sum-none (suc n) f h = rw (sum-none n f (λ i l. h i (omega arith)), h n (omega arith))
+
+-- of m numbers those below n
+pub count-below : (n m : ℕ) (f : ℕ → Bool) → n ≤ m → count m (λ i. ltb i n && f i) ≡ count n f
+count-below n m f l =
+    let g : ℕ → Bool = λ i. ltb i n && f i in
+    let all : n + (m - n) ≡ m = omega arith in
+    let low : count n g ≡ count n f = count-cong n g f (λ i li. rw (lt-ltb i n li) refl) in
+    let high : count (m - n) (λ j. g (n + j)) ≡ 0 = count-none (m - n) _ (λ j lj. rw (le-ltb (n + j) n (omega arith)) refl) in
+    ap (λ (x : ℕ). count x g) (sym all) ∙ sym (count-join n (m - n) g) ∙ omega (arith, low, high)

@@ -44,15 +44,17 @@ fn list_and_paint(ends: Ends, window: Window, raster: &mut [u8]) -> Drawn {
     }
 }
 
-// Draws the line band by band, each row of the window a band; the sum of the counts, or the first refusal. The sum is at
-// most the line's pixels, so it never wraps.
+// Draws the line band by band, each row of the window a band; the sums of the counts, or the first refusal. The sums are at
+// most the line's pixels, so they never wrap.
 fn draw_rows(ends: Ends, window: Window, raster: &mut [u8]) -> Drawn {
     let mut count: u64 = 0;
+    let mut fresh: u64 = 0;
     let mut row: u32 = 0;
     while row < window.height {
         match draw_band(ends, window, row, 1, raster) {
             Drawn::Marked(marks) => {
                 count = wrapping_add_u64(count, marks.count);
+                fresh = wrapping_add_u64(fresh, marks.fresh);
             }
             Drawn::Refused(refusal) => {
                 return Drawn::Refused(refusal);
@@ -60,7 +62,7 @@ fn draw_rows(ends: Ends, window: Window, raster: &mut [u8]) -> Drawn {
         }
         row += 1;
     }
-    Drawn::Marked(Marks { count })
+    Drawn::Marked(Marks { count, fresh })
 }
 
 // Draws the line by one of the drawers.
@@ -73,15 +75,16 @@ fn draw_by(drawer: Drawer, ends: Ends, window: Window, raster: &mut [u8]) -> Dra
     }
 }
 
-// Whether a drawer's answer is the refusal with this number, or, where the number is 0, this count.
-fn answers(drawn: Drawn, refusal: u32, count: u64) -> bool {
+// Whether a drawer's answer is the refusal with this number, or, where the number is 0, these counts.
+fn answers(drawn: Drawn, refusal: u32, count: u64, fresh: u64) -> bool {
     match drawn {
-        Drawn::Marked(marks) => refusal == 0 && marks.count == count,
+        Drawn::Marked(marks) => refusal == 0 && marks.count == count && marks.fresh == fresh,
         Drawn::Refused(why) => why.number() == refusal,
     }
 }
 
-// Whether a drawer answers so, and makes the expected raster of the one that is lent.
+// Whether a drawer answers so, with every pixel new, and makes the expected raster of the clear one that is lent; and whether
+// it then draws the same line again with no pixel new and leaves the raster as it is.
 fn draws_on(
     drawer: Drawer,
     ends: Ends,
@@ -91,8 +94,15 @@ fn draws_on(
     expected: &[u8],
     raster: &mut [u8],
 ) -> bool {
-    let drawn = draw_by(drawer, ends, window, raster);
-    answers(drawn, refusal, count) && check::same(raster, expected)
+    let first = draw_by(drawer, ends, window, raster);
+    if !answers(first, refusal, count, count) {
+        return false;
+    }
+    if !check::same(raster, expected) {
+        return false;
+    }
+    let again = draw_by(drawer, ends, window, raster);
+    answers(again, refusal, count, 0) && check::same(raster, expected)
 }
 
 // The same on a clear raster, which has room for the expected one.
@@ -168,8 +178,9 @@ fn alike_on(ends: Ends, window: Window, refusal: u32, raster: &mut [u8]) -> bool
     all_draw(ends, window, refusal, count, raster)
 }
 
-// Whether every drawer has the second drawer's raster and count, each on a clear raster, or, where a refusal's number is
-// given and not 0, every drawer refuses by it and leaves its raster clear. False for a raster of more than ROOM bytes.
+// Whether every drawer has the second drawer's raster and count, each on a clear raster and once more on what it left, or,
+// where a refusal's number is given and not 0, every drawer refuses by it and leaves its raster clear. False for a raster of
+// more than ROOM bytes.
 pub fn alike(ends: Ends, window: Window, refusal: u32) -> bool {
     let n = bytes(window);
     if ROOM < n {

@@ -9,6 +9,7 @@ use crate::print::print_pixel;
 use crate::print::print_signed;
 use crate::print::print_window;
 use coordinate::Axis;
+use line::draw::draw_double;
 use line::draw::draw_single;
 use line::ends::Ends;
 use line::list::Listed;
@@ -86,15 +87,25 @@ fn print_bytes(raster: &[u8]) {
     }
 }
 
-// Draws the line by the single-step drawer on the raster that is lent, and prints the bytes and the count.
+// Draws the line once more, by the double-step drawer, and prints how many pixels are new.
+fn print_again(ends: Ends, window: Window, raster: &mut [u8]) {
+    match draw_double(ends, window, raster) {
+        Drawn::Marked(marks) => print_number(b", again ", marks.fresh),
+        Drawn::Refused(_) => print(b"refused"),
+    }
+}
+
+// Draws the line by the single-step drawer on the raster that is lent, and prints the bytes and the counts; then once more.
 fn print_drawing_on(ends: Ends, window: Window, raster: &mut [u8]) {
     match draw_single(ends, window, raster) {
         Drawn::Marked(marks) => {
             print_bytes(raster);
             print_number(b", count ", marks.count);
+            print_number(b", new ", marks.fresh);
         }
         Drawn::Refused(_) => print(b"refused"),
     }
+    print_again(ends, window, raster);
 }
 
 // The same on a clear raster.

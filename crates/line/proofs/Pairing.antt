@@ -21,7 +21,7 @@ use Rattle.line.specs.declared.walk.Spot.{Spot}
 use Rattle.line.specs.declared.walk.Strides.{Strides}
 use Rattle.line.proofs.Pixels.{short-le, long-max}
 use Rattle.line.proofs.Stepping.{Small, step-small}
-use Rattle.line.proofs.Marking.{Marked}
+use Rattle.line.proofs.Marking.{Marked, Walked}
 
 -- ---- the strides of a step, and of two
 
@@ -113,16 +113,17 @@ parts e from a b x y =
     ∙ any-join a b (λ j. point (pixel e (from + j) .column) (pixel e (from + j) .row) x y)
 
 -- the steps up to i are marked, and then those from i up to, but without, end
-pub marked-rest : {e : Ends} {w : Window} {s : List ℕ} {from : ℕ} {raster raster′ : List ℕ} {i : ℕ} (end : ℕ)
-    → Marked e w s from raster i → i ≤ end → raster′ ≡ plus w raster (stepPixels e i (end - i))
-    → raster′ ≡ plus w s (stepPixels e from (end - from))
-marked-rest {e} {w} {s} {from} {raster} {i = i} end g l q =
+pub marked-rest : {e : Ends} {w : Window} {s : List ℕ} {from : ℕ} {raster raster′ : List ℕ} {n i : ℕ} (end m : ℕ)
+    → Marked e w s from raster n i → i ≤ end → Walked e w raster i end raster′ m → Walked e w s from end raster′ (n + m)
+marked-rest {e} {w} {s} {from} {raster} {i = i} end m g l q =
     let a : ℕ = i - from in
     let at : i ≡ from + a = omega arith in
-    let all : a + (end - i) ≡ end - from = omega arith in
-    q
-    ∙ ap (λ (r : List ℕ). plus w r (stepPixels e i (end - i))) (g .raster-is)
-    ∙ plus-plus w s (stepPixels e from a) (stepPixels e i (end - i))
-    ∙ ap (λ (k : ℕ). plus w s (λ x y. stepPixels e from a x y || stepPixels e k (end - i) x y)) at
-    ∙ ap (plus w s) (fun-ext (λ x. fun-ext (λ y. parts e from a (end - i) x y)))
-    ∙ ap (λ (n : ℕ). plus w s (stepPixels e from n)) all
+    let all : a + (end - i) ≡ end - from = omega arith in (
+      q .0
+          ∙ ap (λ (r : List ℕ). plus w r (stepPixels e i (end - i))) (g .raster-is)
+          ∙ plus-plus w s (stepPixels e from a) (stepPixels e i (end - i))
+          ∙ ap (λ (k : ℕ). plus w s (λ x y. stepPixels e from a x y || stepPixels e k (end - i) x y)) at
+          ∙ ap (plus w s) (fun-ext (λ x. fun-ext (λ y. parts e from a (end - i) x y)))
+          ∙ ap (λ (n : ℕ). plus w s (stepPixels e from n)) all,
+      omega (arith, g .bits-are, q .1),
+    )

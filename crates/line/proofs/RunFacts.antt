@@ -1,6 +1,6 @@
 -- Every step is in one run, once, so a test of the line's pixels and a count of them go run by run, from a run list too.
 use Prim.Native.Nat.{ℕ, zero, suc, _+_, _*_, _≤_, _<_}
-use mathlib.Core.Path.{_≡_, refl, sym, ap, _∙_, fun-ext}
+use mathlib.Core.Path.{_≡_, refl, sym, ap, ap₂, _∙_, fun-ext}
 use mathlib.Core.Bool.{Bool, true, false, _||_}
 use mathlib.Core.List.{List, [], _∷_, _++_}
 use native.Mathlib.Omega.{arith}
@@ -24,6 +24,8 @@ use Rattle.refusal.proofs.Conditions.{none-met}
 use Rattle.raster.specs.Raster.{plus, inWindow}
 use Rattle.raster.specs.Window.{frameConditions}
 use Rattle.raster.specs.Bits.{point}
+use Rattle.raster.specs.Fresh.{freshCount}
+use Rattle.raster.specs.Drawn.{marks}
 use Rattle.raster.specs.declared.window.Window.{Window}
 use Rattle.runs.specs.Run.{Run, numbers, runList, runPixel, inRun, runCount}
 use Rattle.runs.specs.Painting.{storedAcross, storedLowest, storedPixels, natural, runAt, runBad, firstBad, inRuns, paintCount, paintConditions}
@@ -31,7 +33,7 @@ use Rattle.runs.proofs.Outcome.{all-passed}
 use Rattle.line.specs.Line.{long, short, axis, distance, pixel, onLine, endsOut}
 use Rattle.line.specs.Runs.{firstStep, pixelsOf, run, runs}
 use Rattle.line.specs.Listing.{lineList}
-use Rattle.line.specs.Drawing.{lineCount, lineRaster, lineConditions}
+use Rattle.line.specs.Drawing.{lineCount, lineFresh, lineRaster, lineConditions}
 use Rattle.line.specs.RunFacts.{falls, stepOf, Stepped, RunsAreLine, RunsDrawLine, listThen, ReadBack, NoneBad, Painted, ListedAndPainted}
 use Rattle.line.specs.declared.ends.Ends.{Ends}
 use Rattle.line.proofs.Pixels.{distance-max}
@@ -201,13 +203,14 @@ module _ (e : Ends) (rest : List ℤ) where
 
   -- painting the line's run list is drawing the line
   pub paints-line : Painted e rest
-  unfolding lineRaster
+  unfolding lineRaster lineFresh
   paints-line =
       record {
         allowed = λ p. none-bad p .first-bad;
         marks = painted-marks;
         counts = painted-count;
         raster = λ w s. ap (plus w s) (fun-ext (λ x. fun-ext (λ y. painted-marks x y)));
+        fresh = λ w s. ap (freshCount w s) (fun-ext (λ x. fun-ext (λ y. painted-marks x y)));
       }
 
 -- ---- lister and painter
@@ -234,6 +237,6 @@ module _ (e : Ends) (list : List ℤ) (w : Window) (s : List ℕ) (h : firstMet 
   unfolding lineList rest
   listed-and-painted =
       record {
-        answer-is = rw (paint-met, none-bad e rest ends-in .first-bad) (ap given (paints-line e rest .counts w));
+        answer-is = rw (paint-met, none-bad e rest ends-in .first-bad) (ap given (ap₂ marks (paints-line e rest .counts w) (paints-line e rest .fresh w s)));
         raster-is = rw (paint-met, none-bad e rest ends-in .first-bad) (paints-line e rest .raster w s);
       }

@@ -10,7 +10,7 @@ use Rattle.raster.specs.declared.window.Window.{Window}
 use Rattle.line.specs.Line.{long, axis, distance, pixel}
 use Rattle.runs.specs.Run.{Run}
 use Rattle.line.specs.Runs.{runs}
-use Rattle.line.specs.Drawing.{lineCount, lineRaster}
+use Rattle.line.specs.Drawing.{lineCount, lineFresh, lineRaster}
 use Rattle.line.specs.declared.ends.Ends.{Ends}
 use Rattle.coordinate.specs.declared.Axis.the-variants.{X, Y}
 
@@ -59,3 +59,13 @@ pub record Lettered : Type 0 where
   pub J : (lineRaster (from (minus 3) (pos 0) (pos 3) (pos 0)) (sized 4 1) (0 ∷ []) ≡ 240 ∷ [])
       × (lineCount (from (minus 3) (pos 0) (pos 3) (pos 0)) (sized 4 1) ≡ 4)
   pub K : lineRaster lineH (sized 12 4) (0 ∷ 0 ∷ 0 ∷ 0 ∷ 0 ∷ 0 ∷ 0 ∷ 0 ∷ []) ≡ 192 ∷ 0 ∷ 60 ∷ 0 ∷ 3 ∷ 192 ∷ 0 ∷ 48 ∷ []
+
+-- how many pixels of lettered lines are new
+pub record LetteredNew : Type 0 where
+  -- all of line D's on a clear raster; of line E's over it only (1,0)
+  pub D : lineFresh (from (pos 0) (pos 0) (pos 2) (pos 1)) (sized 3 2) (0 ∷ 0 ∷ []) ≡ 3
+  pub E : lineFresh (from (pos 2) (pos 1) (pos 0) (pos 0)) (sized 3 2) (128 ∷ 96 ∷ []) ≡ 1
+  -- padding that is marked is no pixel
+  pub J : lineFresh (from (minus 3) (pos 0) (pos 3) (pos 0)) (sized 4 1) (15 ∷ []) ≡ 4
+  -- none of line K's over itself
+  pub K : lineFresh lineH (sized 12 4) (192 ∷ 0 ∷ 60 ∷ 0 ∷ 3 ∷ 192 ∷ 0 ∷ 48 ∷ []) ≡ 0

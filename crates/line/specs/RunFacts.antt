@@ -12,13 +12,14 @@ use Rattle.counting.specs.Count.{any, sum}
 use Rattle.coordinate.specs.Coordinate.{along}
 use Rattle.refusal.specs.Refusal.{given}
 use Rattle.raster.specs.Raster.{plus}
+use Rattle.raster.specs.Fresh.{freshCount}
 use Rattle.raster.specs.declared.window.Window.{Window}
 use Rattle.runs.specs.Run.{runList, runPixel, inRun, runCount}
 use Rattle.runs.specs.Painting.{storedAcross, storedLowest, storedPixels, runAt, runBad, firstBad, inRuns, paintCount, paintAnswer, paintAfter}
 use Rattle.line.specs.Line.{long, short, axis, distance, pixel, onLine, endsOut}
 use Rattle.line.specs.Runs.{firstStep, pixelsOf, run, runs}
 use Rattle.line.specs.Listing.{lineList}
-use Rattle.line.specs.Drawing.{lineCount, lineRaster}
+use Rattle.line.specs.Drawing.{lineCount, lineFresh, lineMarks, lineRaster}
 use Rattle.line.specs.declared.ends.Ends.{Ends}
 
 -- the long coordinate falls from the first end to the second
@@ -86,9 +87,10 @@ pub record Painted (e : Ends) (rest : List ℤ) : Type 0 where
   pub marks : (column row : ℤ) → inRuns (axis e) (listThen e rest) (short e + 1) column row ≡ onLine e column row
   pub counts : (w : Window) → paintCount (axis e) (listThen e rest) (short e + 1) w ≡ lineCount e w
   pub raster : (w : Window) (s : List ℕ) → plus w s (inRuns (axis e) (listThen e rest) (short e + 1)) ≡ lineRaster e w s
+  pub fresh : (w : Window) (s : List ℕ) → freshCount w s (inRuns (axis e) (listThen e rest) (short e + 1)) ≡ lineFresh e w s
 
--- the painter, given the axis, the number of runs and the list that the lister left, does not refuse: its raster and its sum
--- are the drawers' raster and count
+-- the painter, given the axis, the number of runs and the list that the lister left, does not refuse: its raster and its
+-- counts are the drawers'
 pub record ListedAndPainted (e : Ends) (list : List ℤ) (w : Window) (s : List ℕ) : Type 0 where
-  pub answer-is : paintAnswer (axis e) (short e + 1) (lineList e list) w s ≡ given (lineCount e w)
+  pub answer-is : paintAnswer (axis e) (short e + 1) (lineList e list) w s ≡ given (lineMarks e w s)
   pub raster-is : paintAfter (axis e) (short e + 1) (lineList e list) w s ≡ lineRaster e w s

@@ -14,6 +14,7 @@ ghost use Prim.Native.Nat.{_+_, _-_, _*_, _%_, _≤_, _<_};
 ghost use lib.ListN.{length};
 ghost use Rattle.refusal.specs.Refusal.{firstMet};
 ghost use Rattle.raster.specs.Raster.{plus};
+ghost use Rattle.raster.specs.Fresh.{bitCount};
 ghost use Rattle.raster.specs.Window.{frameConditions};
 ghost use Rattle.line.specs.Walk.{Traced, Shown, Stands, Moves, stepPixels};
 ghost use Rattle.line.specs.Pairs.{Pair};
@@ -108,7 +109,7 @@ fn pair_of(line: Line, window: Window, by: Strides, i: u32, at: Spot) -> Two
 }
 
 // Marks the steps from `from`, an even one, up to, but without, `end` in pairs from `from` on, and a single step last where
-// one is left.
+// one is left. Answers how many bits that adds.
 fn walk_pairs(
     line: Line,
     window: Window,
@@ -117,51 +118,54 @@ fn walk_pairs(
     end: u32,
     start: Spot,
     raster: &mut [u8],
-)
+) -> u32
     requires { ⌜ Traced line × (firstMet (frameConditions window (length (now raster))) ≡ 0) × Moves (line .ends) window by × Shown (line .ends) window from end × Stands (line .ends) window from start × (from % 2 ≡ 0) ⌝ }
     ensures { λ _. ⌜ now (raster .exit) ≡ plus window (now (raster .entry)) (stepPixels (line .ends) from (end - from)) ⌝ }
+    ensures { λ r. ⌜ bitCount (now (raster .exit)) ≡ bitCount (now (raster .entry)) + r ⌝ }
 {
     let mask = MASK;
     let mut at = start;
+    let mut fresh: u32 = 0;
     let mut i = from;
     while i + 2 < end {
         let bit = at.bit;
-        put_bit(&mask, bit, raster);
+        fresh += put_bit(&mask, bit, raster);
         let two = pair_of(line, window, by, i, at);
         let middle = two.middle;
-        put_bit(&mask, middle, raster);
+        fresh += put_bit(&mask, middle, raster);
         let after = two.bit;
         let rest = two.rest;
         at = Spot { bit: after, rest };
         i += 2;
     }
     let bit = at.bit;
-    put_bit(&mask, bit, raster);
+    fresh += put_bit(&mask, bit, raster);
     if i + 1 < end {
         at = next(line, window, by, i, at);
         let last = at.bit;
-        put_bit(&mask, last, raster);
+        fresh += put_bit(&mask, last, raster);
     }
+    fresh
 }
 
 // Marks the pixels of the steps from `from` up to, but without, `end`, which all lie in the window, in pairs that are
-// counted from the first end.
-pub fn walk_double(line: Line, window: Window, from: u32, end: u32, raster: &mut [u8])
+// counted from the first end, and answers how many bits that adds.
+pub fn walk_double(line: Line, window: Window, from: u32, end: u32, raster: &mut [u8]) -> u32
     requires { ⌜ Traced line × (firstMet (frameConditions window (length (now raster))) ≡ 0) × Shown (line .ends) window from end ⌝ }
     ensures { λ _. ⌜ now (raster .exit) ≡ plus window (now (raster .entry)) (stepPixels (line .ends) from (end - from)) ⌝ }
+    ensures { λ r. ⌜ bitCount (now (raster .exit)) ≡ bitCount (now (raster .entry)) + r ⌝ }
 {
     let by = stride_of(line, window);
     let start = enter(line, window, from);
     if from % 2 == 0 {
-        walk_pairs(line, window, by, from, end, start, raster);
-        return;
+        return walk_pairs(line, window, by, from, end, start, raster);
     }
     let mask = MASK;
     let bit = start.bit;
-    put_bit(&mask, bit, raster);
+    let fresh = put_bit(&mask, bit, raster);
     if from + 1 == end {
-        return;
+        return fresh;
     }
     let at = next(line, window, by, from, start);
-    walk_pairs(line, window, by, from + 1, end, at, raster);
+    fresh + walk_pairs(line, window, by, from + 1, end, at, raster)
 }

@@ -13,6 +13,7 @@ ghost use Prim.Native.Nat.{_+_, _-_, _≤_, _<_};
 ghost use lib.ListN.{length};
 ghost use Rattle.refusal.specs.Refusal.{firstMet};
 ghost use Rattle.raster.specs.Raster.{plus};
+ghost use Rattle.raster.specs.Fresh.{bitCount};
 ghost use Rattle.raster.specs.Window.{windowConditions, frameConditions};
 ghost use Rattle.line.specs.Walk.{Traced, seen, Shown, Stands, Moves, stepPixels};
 ghost use Rattle.line.specs.Visible.{away};
@@ -112,20 +113,23 @@ pub fn next(line: Line, window: Window, by: Strides, i: u32, at: Spot) -> Spot
     }
 }
 
-// Marks the pixels of the steps from `from` up to, but without, `end`, which all lie in the window.
-pub fn walk(line: Line, window: Window, from: u32, end: u32, raster: &mut [u8])
+// Marks the pixels of the steps from `from` up to, but without, `end`, which all lie in the window, and answers how
+// many bits that adds.
+pub fn walk(line: Line, window: Window, from: u32, end: u32, raster: &mut [u8]) -> u32
     requires { ⌜ Traced line × (firstMet (frameConditions window (length (now raster))) ≡ 0) × Shown (line .ends) window from end ⌝ }
     ensures { λ _. ⌜ now (raster .exit) ≡ plus window (now (raster .entry)) (stepPixels (line .ends) from (end - from)) ⌝ }
+    ensures { λ r. ⌜ bitCount (now (raster .exit)) ≡ bitCount (now (raster .entry)) + r ⌝ }
 {
     let mask = MASK;
     let by = stride_of(line, window);
     let mut at = enter(line, window, from);
+    let mut fresh: u32 = 0;
     let mut i = from;
     loop {
         let bit = at.bit;
-        put_bit(&mask, bit, raster);
+        fresh += put_bit(&mask, bit, raster);
         if i + 1 == end {
-            return;
+            return fresh;
         }
         at = next(line, window, by, i, at);
         i += 1;

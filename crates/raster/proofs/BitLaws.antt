@@ -103,11 +103,11 @@ between-none a p =
     let w = and-both (leb a p) (ltb p a) t in omega (arith, leb-true a p (w .0), ltb-true p a (w .1)))
 
 -- the masks
-mask-rule : Rule masks (λ k n. eqb n k)
+pub mask-rule : Rule masks (λ k n. eqb n k)
 unfolding any bit worth
 mask-rule = refl
 
-mask-lt : (k : ℕ) → k < 8 → getD masks k 0 < 256
+pub mask-lt : (k : ℕ) → k < 8 → getD masks k 0 < 256
 mask-lt =
     below-eight (λ k. getD masks k 0 < 256) (lit< tt) (lit< tt) (lit< tt) (lit< tt) (lit< tt) (lit< tt) (lit< tt) (lit< tt)
 

@@ -1,10 +1,10 @@
--- A byte and its eight bits determine each other; `|` and `&` of bytes work bit by bit.
-use Prim.Native.Nat.{ℕ, zero, suc, _+_, _-_, _*_, _/_, _%_, _^_, _≤_, _<_}
+-- A byte and its eight bits determine each other; `|`, `&` and `^` of bytes work bit by bit.
+use Prim.Native.Nat.{ℕ, zero, suc, _+_, _-_, _*_, _/_, _%_, _^_, _<_}
 use mathlib.Core.Path.{_≡_, refl, sym, ap, ap₂, _∙_}
 use mathlib.Core.Bool.{Bool, true, false, not, _&&_, _||_, cond}
 use mathlib.Core.List.{List}
 use native.Mathlib.Omega.{arith}
-use lib.Bits.{bitAnd, bitOr, and-shr, or-shr, and-mod, or-mod, or-lt}
+use lib.Bits.{bitAnd, bitOr, bitXor, and-shr, or-shr, xor-shr, and-mod, or-mod, xor-mod, or-lt}
 use lib.Dec.{eqb, lit<}
 use lib.ListN.{getD}
 use Rattle.counting.specs.Count.{one, any}
@@ -38,7 +38,7 @@ odd-one false = refl
 odd-is : (n : ℕ) (b : Bool) → n ≡ one b → eqb n 1 ≡ b
 odd-is n b e = ap (λ (x : ℕ). eqb x 1) e ∙ odd-one b
 
-half-one : (x : ℕ) → one (eqb (x % 2) 1) ≡ x % 2
+pub half-one : (x : ℕ) → one (eqb (x % 2) 1) ≡ x % 2
 half-one x = one-odd (x % 2) (omega arith)
 
 digits : (b q1 q2 q3 q4 q5 q6 q7 r0 r1 r2 r3 r4 r5 r6 r7 : ℕ) → b ≡ 2 * q1 + r0 → q1 ≡ 2 * q2 + r1 → q2 ≡ 2 * q3 + r2 → q3 ≡ 2 * q4 + r3
@@ -87,6 +87,10 @@ bit-byte f =
     (odd-is (byte f / worth 6 % 2) (f 6) (omega arith))
     (odd-is (byte f / worth 7 % 2) (f 7) (omega arith))
 
+-- one of two tests holds
+abbrev pub differ : Bool → Bool → Bool
+differ a b = cond a (not b) b
+
 -- two numbers below 2, joined
 or-bools : (s t : Bool) → eqb (bitOr (one s) (one t)) 1 ≡ (s || t)
 or-bools true true = refl
@@ -99,6 +103,12 @@ and-bools true true = refl
 and-bools true false = refl
 and-bools false true = refl
 and-bools false false = refl
+
+xor-bools : (s t : Bool) → eqb (bitXor (one s) (one t)) 1 ≡ differ s t
+xor-bools true true = refl
+xor-bools true false = refl
+xor-bools false true = refl
+xor-bools false false = refl
 
 joined : (f : ℕ → ℕ → ℕ) (x y : ℕ) → x < 2 → y < 2 → eqb (f x y) 1 ≡ eqb (f (one (eqb x 1)) (one (eqb y 1))) 1
 joined f x y p q = ap₂ (λ (u v : ℕ). eqb (f u v) 1) (sym (one-odd x p)) (sym (one-odd y q))
@@ -115,13 +125,16 @@ bit-and a b k =
     rw (and-shr a b (7 - k), and-mod (a / 2 ^ (7 - k)) (b / 2 ^ (7 - k)) 1)
     (joined bitAnd (a / 2 ^ (7 - k) % 2) (b / 2 ^ (7 - k) % 2) (omega arith) (omega arith) ∙ and-bools (bit a k) (bit b k))
 
+pub bit-xor : (a b k : ℕ) → bit (bitXor a b) k ≡ differ (bit a k) (bit b k)
+unfolding bit worth
+bit-xor a b k =
+    rw (xor-shr a b (7 - k), xor-mod (a / 2 ^ (7 - k)) (b / 2 ^ (7 - k)) 1)
+    (joined bitXor (a / 2 ^ (7 - k) % 2) (b / 2 ^ (7 - k) % 2) (omega arith) (omega arith) ∙ xor-bools (bit a k) (bit b k))
+
 pub byte-or : (b v : ℕ) → b < 256 → v < 256 → byte (λ k. bit b k || bit v k) ≡ bitOr b v
 byte-or b v lb lv = byte-ext _ _ (λ k l. sym (bit-or b v k)) ∙ byte-bits (bitOr b v) (or-lt 8 b v lb lv)
 
 -- the rule of a table of eight bytes, by a test that computes over all their bits
-abbrev pub differ : Bool → Bool → Bool
-differ a b = cond a (not b) b
-
 abbrev pub Rule : List ℕ → (ℕ → ℕ → Bool) → Type 0
 Rule t f = any 64 (λ i. differ (bit (getD t (i / 8) 0) (i % 8)) (f (i / 8) (i % 8))) ≡ false
 

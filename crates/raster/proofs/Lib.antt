@@ -11,3 +11,5 @@ pub mod Passing
 pub mod Searching
 pub mod Placing
 pub mod StartPlus
+pub mod Fresh
+pub mod Growing

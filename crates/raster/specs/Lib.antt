@@ -4,5 +4,6 @@ pub mod Row
 pub mod Band
 pub mod StartPlus
 pub mod Bits
+pub mod Fresh
 pub mod Drawn
 pub mod Search

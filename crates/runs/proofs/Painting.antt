@@ -11,19 +11,24 @@ use lib.ListN.{length}
 use Rattle.counting.specs.Count.{any, sum}
 use Rattle.counting.proofs.Boolean.{clash, never}
 use Rattle.counting.proofs.Any.{any-make, any-none}
+use Rattle.counting.proofs.Counted.{count-most}
 use Rattle.counting.proofs.First.{first-none, first-at, none-any}
 use Rattle.coordinate.specs.declared.Axis.{Axis}
 use Rattle.coordinate.specs.declared.Axis.the-variants.{X, Y}
 use Rattle.refusal.specs.declared.Refusal.the-variants.{Run as BadRun}
 use Rattle.refusal.specs.declared.Check.the-variants.{Passed, Refused}
-use Rattle.raster.specs.Raster.{plus}
+use Rattle.raster.specs.Raster.{inWindow, plus}
 use Rattle.raster.specs.Bits.{span}
+use Rattle.raster.specs.Fresh.{bitCount}
+use Rattle.raster.specs.Drawn.{marks}
+use Rattle.raster.specs.declared.drawn.Marks.{Marks}
 use Rattle.raster.specs.declared.window.Window.{Window}
 use Rattle.raster.proofs.Over.{Bytes}
 use Rattle.raster.proofs.Frames.{Placed, Shaped, Frame}
 use Rattle.raster.proofs.Plus.{plus-plus, plus-cong, plus-none}
-use Rattle.runs.specs.Run.{Run, inRun, runCount}
-use Rattle.runs.specs.Painting.{runAt, runBad, firstBad, inRuns, paintCount}
+use Rattle.raster.proofs.Fresh.{fresh-is}
+use Rattle.runs.specs.Run.{Run, runPixel, inRun, runCount}
+use Rattle.runs.specs.Painting.{natural, runAt, runBad, firstBad, inRuns, paintCount, paintMarks}
 use Rattle.runs.specs.Parts.{storedAt, runOf, badRun, badCheck, turnedWindow, pieceOf, downFrom}
 use Rattle.runs.specs.declared.paint.Stored.{Stored}
 use Rattle.runs.specs.declared.paint.Piece.{Piece}
@@ -61,6 +66,11 @@ no-pixels : (axis : Axis) (r : Run) (x y : ℤ) → r .pixels ≡ 0 → inRun ax
 unfolding inRun
 no-pixels axis r x y e = any-none (r .pixels) _ (λ i l. absurd (omega arith))
 
+-- a lawful run has few pixels
+pub run-few : (axis : Axis) (s : Stored) (w : Window) → Lawful s → runCount axis (runOf s) w ≤ 32768
+unfolding runCount
+run-few axis s w f = omega (arith, count-most (natural (s .pixels)) (λ j. inWindow w (runPixel axis (runOf s) j)), f .end)
+
 module _ (axis : Axis) (s : Stored) (w : Window) (p : Piece) (left : p ≡ pieceOf axis s w) where
   pub piece-in : (p .pixels ≡ 0 → ⊥)
       → (p .lowest + p .pixels ≤ turnedWindow axis w .width) × (p .across < turnedWindow axis w .height)
@@ -82,38 +92,53 @@ module _ (axis : Axis) (s : Stored) (w : Window) (start : List ℕ) (frame : Fra
       cut-same axis s w (frame .place) f c r lc lr ∙ no-pixels axis (cutRun axis s w) _ _ e))
 
 -- the fill along each axis
-module _ (s : Stored) (w : Window) (start : List ℕ) (frame : Frame w (length start)) (f : Lawful s) (p : Piece) where
-  pub filled-row : p ≡ pieceOf X s w
-      → plus w start (span (w .left +ℤ pos (p .lowest)) (w .top +ℤ pos (p .across)) (p .pixels)) ≡ plus w start (inRun X (runOf s))
-  filled-row left =
-      rw left
-      (plus-cong w start (frame .shape) _ _ (λ c r lc lr. sym (run-span X (cutRun X s w) (w .left +ℤ pos c) (w .top +ℤ pos r)))
-      ∙ piece-filled X s w start frame f)
+module _ (axis : Axis) (s : Stored) (w : Window) (start : List ℕ) (frame : Frame w (length start)) (f : Lawful s) (p : Piece) (left : p ≡ pieceOf axis s w) where
+  along-axis : (a : Axis) → axis ≡ a → plus w start (inRun a (cutRun a s w)) ≡ plus w start (inRun axis (runOf s))
+  along-axis a e = piece-filled a s w start frame f ∙ ap (λ (b : Axis). plus w start (inRun b (runOf s))) (sym e)
 
-  pub filled-column : p ≡ pieceOf Y s w
-      → plus w start (inRun Y (downFrom w (p .across) (p .lowest) (p .pixels))) ≡ plus w start (inRun Y (runOf s))
-  filled-column left = rw left (piece-filled Y s w start frame f)
+  pub filled-row : axis ≡ X
+      → plus w start (span (w .left +ℤ pos (p .lowest)) (w .top +ℤ pos (p .across)) (p .pixels)) ≡ plus w start (inRun axis (runOf s))
+  filled-row e =
+      rw (left ∙ ap (λ (a : Axis). pieceOf a s w) e)
+      (plus-cong w start (frame .shape) _ _ (λ c r lc lr. sym (run-span X (cutRun X s w) (w .left +ℤ pos c) (w .top +ℤ pos r)))
+      ∙ along-axis X e)
+
+  pub filled-column : axis ≡ Y
+      → plus w start (inRun Y (downFrom w (p .across) (p .lowest) (p .pixels))) ≡ plus w start (inRun axis (runOf s))
+  filled-column e = rw (left ∙ ap (λ (a : Axis). pieceOf a s w) e) (along-axis Y e)
 
 -- ---- all runs
 
 -- the first k runs are painted and counted
-pub record Painting (axis : Axis) (list : List ℤ) (w : Window) (start now : List ℕ) (total k : ℕ) : Type 0 where
+pub record Painting (axis : Axis) (list : List ℤ) (w : Window) (start now : List ℕ) (total fresh k : ℕ) : Type 0 where
   pub total-is : total ≡ paintCount axis list k w
   pub raster-is : now ≡ plus w start (inRuns axis list k)
+  pub bits-are : bitCount now ≡ bitCount start + fresh
 
 module _ (axis : Axis) (list : List ℤ) (w : Window) (start : List ℕ) where
-  pub painting-none : Shaped w (length start) → Bytes start → Painting axis list w start start 0 0
+  pub painting-none : Shaped w (length start) → Bytes start → Painting axis list w start start 0 0 0
   unfolding paintCount inRuns any sum
   painting-none shape bytes =
-      record { total-is = refl; raster-is = sym (plus-none w start shape (inRuns axis list 0) bytes (λ c r lc lr. refl)) }
+      record {
+        total-is = refl;
+        raster-is = sym (plus-none w start shape (inRuns axis list 0) bytes (λ c r lc lr. refl));
+        bits-are = omega arith;
+      }
 
-  pub painting-on : (now next : List ℕ) (total n k : ℕ) → Painting axis list w start now total k
-      → n ≡ runCount axis (runAt list k) w → next ≡ plus w now (inRun axis (runAt list k))
-      → Painting axis list w start next (total + n) (k + 1)
+  pub painting-on : (now next : List ℕ) (total fresh n m k : ℕ) → Painting axis list w start now total fresh k
+      → n ≡ runCount axis (runAt list k) w → next ≡ plus w now (inRun axis (runAt list k)) → bitCount next ≡ bitCount now + m
+      → Painting axis list w start next (total + n) (fresh + m) (k + 1)
   unfolding paintCount inRuns any sum
-  painting-on now next total n k p e f =
+  painting-on now next total fresh n m k p e f g =
       let P : ℤ → ℤ → Bool = inRun axis (runAt list k) in
       record {
         total-is = rw (add-one k) (ap₂ _+_ (p .total-is) e);
         raster-is = rw (add-one k) (f ∙ ap (λ (s : List ℕ). plus w s P) (p .raster-is) ∙ plus-plus w start (inRuns axis list k) P);
+        bits-are = omega (arith, p .bits-are, g);
       }
+
+  -- after all of them the counts are the painter's
+  pub painting-done : (now : List ℕ) (total fresh k : ℕ) → Shaped w (length start) → Painting axis list w start now total fresh k
+      → _≡_ {A = Marks} (record { count = total; fresh = fresh }) (paintMarks axis k list w start)
+  painting-done now total fresh k shape p =
+      ap₂ marks (p .total-is) (fresh-is w start shape (inRuns axis list k) now fresh (p .raster-is) (p .bits-are))

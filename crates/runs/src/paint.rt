@@ -18,10 +18,11 @@ ghost use Rattle.coordinate.specs.Coordinate.{outOfRange};
 ghost use Rattle.coordinate.specs.declared.Axis.the-variants.{Y};
 ghost use Rattle.refusal.specs.Refusal.{firstMet};
 ghost use Rattle.raster.specs.Raster.{plus};
+ghost use Rattle.raster.specs.Fresh.{bitCount};
 ghost use Rattle.raster.specs.Window.{sizeOut, placeOut, frameConditions};
 ghost use Rattle.raster.specs.Drawn.{drawn};
 ghost use Rattle.runs.specs.Run.{inRun, runCount};
-ghost use Rattle.runs.specs.Painting.{natural, firstBad, inRuns, paintCount, paintAnswer, paintAfter};
+ghost use Rattle.runs.specs.Painting.{natural, firstBad, inRuns, paintMarks, paintAnswer, paintAfter};
 ghost use Rattle.runs.specs.Parts.{storedAt, runOf, badRun, badCheck, cutPart, turnedWindow, pieceOf, downFrom};
 
 // The three numbers of a stored run.
@@ -131,20 +132,26 @@ fn turned(axis: Axis, window: Window) -> Window
     }
 }
 
-// Marks the window's `n` pixels of column `column` from row `row` on, both counted from 0 at left and top.
-fn fill_column(window: Window, column: u32, row: u32, n: u32, raster: &mut [u8])
+// Marks the window's `n` pixels of column `column` from row `row` on, both counted from 0 at left and top, and answers how many
+// bits that adds.
+fn fill_column(window: Window, column: u32, row: u32, n: u32, raster: &mut [u8]) -> u32
     requires { ⌜ (firstMet (frameConditions window (length (now raster))) ≡ 0) × (column < window .width) × (row + n ≤ window .height) ⌝ }
     ensures { λ _. ⌜ now (raster .exit) ≡ plus window (now (raster .entry)) (inRun Y (downFrom window column row n)) ⌝ }
+    ensures { λ r. ⌜ bitCount (now (raster .exit)) ≡ bitCount (now (raster .entry)) + r ⌝ }
 {
     let bit = MASK[column as usize % 8];
     let stride = window.row_bytes();
     let mut at = row as usize * stride + column as usize / 8;
+    let mut fresh: u32 = 0;
     let mut i: u32 = 0;
     while i < n {
-        raster[at] = raster[at] | bit;
+        let old = raster[at];
+        raster[at] = old | bit;
+        fresh += (old & bit == 0) as u32;
         at += stride;
         i += 1;
     }
+    fresh
 }
 
 // What is left of a lawful run in the window.
@@ -163,41 +170,54 @@ fn cut_run(axis: Axis, run: Stored, window: Window) -> Piece
     }
 }
 
-// Marks the pixels of a lawful run that lie in the window, and answers how many they are.
-fn paint_run(axis: Axis, run: Stored, window: Window, raster: &mut [u8]) -> u32
+// Marks the pixels of a lawful run that lie in the window, and answers how many they are and how many of them are new.
+fn paint_run(axis: Axis, run: Stored, window: Window, raster: &mut [u8]) -> Marks
     requires { ⌜ (badRun run ≡ false) × (firstMet (frameConditions window (length (now raster))) ≡ 0) ⌝ }
-    ensures { λ r. ⌜ (r ≡ runCount axis (runOf run) window) × (now (raster .exit) ≡ plus window (now (raster .entry)) (inRun axis (runOf run))) ⌝ }
+    ensures { λ r. ⌜ r .count ≡ runCount axis (runOf run) window ⌝ }
+    ensures { λ _. ⌜ now (raster .exit) ≡ plus window (now (raster .entry)) (inRun axis (runOf run)) ⌝ }
+    ensures { λ r. ⌜ bitCount (now (raster .exit)) ≡ bitCount (now (raster .entry)) + r .fresh ⌝ }
 {
     let piece = cut_run(axis, run, window);
     let n = piece.pixels;
     if n == 0 {
-        return 0;
+        return Marks { count: 0, fresh: 0 };
     }
-    match axis {
+    let fresh = match axis {
         Axis::X => fill_span(window, piece.across, piece.lowest, n, raster),
         Axis::Y => fill_column(window, piece.across, piece.lowest, n, raster),
+    };
+    Marks {
+        count: n as u64,
+        fresh: fresh as u64,
     }
-    n
 }
 
-// Marks the pixels of the first `count` runs, all lawful, that lie in the window, and answers their sum over the runs.
-fn paint_all(axis: Axis, count: u32, list: &[i32], window: Window, raster: &mut [u8]) -> u64
+// Marks the pixels of the first `count` runs, all lawful, that lie in the window, and answers their sum over the runs and how
+// many pixels are new.
+fn paint_all(axis: Axis, count: u32, list: &[i32], window: Window, raster: &mut [u8]) -> Marks
     requires { ⌜ (3 * count ≤ length (now list)) × (firstBad (now list) count ≡ none) × (firstMet (frameConditions window (length (now raster))) ≡ 0) ⌝ }
-    ensures { λ r. ⌜ (r ≡ paintCount axis (now (list .entry)) count window) × (now (raster .exit) ≡ plus window (now (raster .entry)) (inRuns axis (now (list .entry)) count)) ⌝ }
+    ensures { λ r. ⌜ r ≡ paintMarks axis count (now (list .entry)) window (now (raster .entry)) ⌝ }
+    ensures { λ _. ⌜ now (raster .exit) ≡ plus window (now (raster .entry)) (inRuns axis (now (list .entry)) count) ⌝ }
 {
     let mut total: u64 = 0;
+    let mut fresh: u64 = 0;
     let mut k: u32 = 0;
     while k < count {
-        let n = paint_run(axis, read_run(list, k), window, raster);
-        total += n as u64;
+        let marks = paint_run(axis, read_run(list, k), window, raster);
+        total += marks.count;
+        fresh += marks.fresh;
         k += 1;
     }
-    total
+    Marks {
+        count: total,
+        fresh,
+    }
 }
 
 // Marks the pixels of the first `count` runs of the list that lie in the window, and answers their sum over the runs, an
-// overlap counted each time. All runs are checked before the first bit changes; numbers after the counted runs are not
-// looked at. Refused (2, 3, 4, 7, and 8 with the place of the first bad run) it marks nothing.
+// overlap counted each time, and how many pixels are new, an overlap once. All runs are checked before the first bit changes;
+// numbers after the counted runs are not looked at. Refused (2, 3, 4, 7, and 8 with the place of the first bad run) it marks
+// nothing.
 pub fn paint_runs(axis: Axis, count: u32, list: &[i32], window: Window, raster: &mut [u8]) -> Drawn
     ensures { λ r. ⌜ drawn r ≡ paintAnswer axis count (now (list .entry)) window (now (raster .entry)) ⌝ }
     ensures { λ _. ⌜ now (raster .exit) ≡ paintAfter axis count (now (list .entry)) window (now (raster .entry)) ⌝ }
@@ -213,6 +233,5 @@ pub fn paint_runs(axis: Axis, count: u32, list: &[i32], window: Window, raster: 
     if let Check::Refused(refusal) = runs {
         return Drawn::Refused(refusal);
     }
-    let total = paint_all(axis, count, list, window, raster);
-    Drawn::Marked(Marks { count: total })
+    Drawn::Marked(paint_all(axis, count, list, window, raster))
 }

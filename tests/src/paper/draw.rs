@@ -1,7 +1,7 @@
 //! Document 01, 'Operations': drawing a line in a window, and in a band of its rows.
 use crate::frame::{ends_out, Window};
 use crate::line::Line;
-use crate::raster::mark;
+use crate::raster::{mark, Marks};
 use crate::refusal::{first_met, Refusal};
 
 /// A first row, counted from 0 at the window's top, and a number of rows.
@@ -24,8 +24,8 @@ impl Band {
     }
 }
 
-/// Marks the line's pixels in the window: how many they are.
-pub fn draw(line: &Line, window: Window, raster: &mut [u8]) -> Result<u64, Refusal> {
+/// Marks the line's pixels in the window: how many they are, and how many were unmarked.
+pub fn draw(line: &Line, window: Window, raster: &mut [u8]) -> Result<Marks, Refusal> {
     first_met(&[
         (1, ends_out(line.ends)),
         (2, window.size_out()),
@@ -39,13 +39,13 @@ pub fn draw(line: &Line, window: Window, raster: &mut [u8]) -> Result<u64, Refus
         .sum())
 }
 
-/// Marks the line's pixels in the band's rows of the window: how many they are.
+/// Marks the line's pixels in the band's rows of the window: how many they are, and how many were unmarked.
 pub fn draw_band(
     line: &Line,
     window: Window,
     band: Band,
     raster: &mut [u8],
-) -> Result<u64, Refusal> {
+) -> Result<Marks, Refusal> {
     first_met(&[
         (1, ends_out(line.ends)),
         (2, window.size_out()),

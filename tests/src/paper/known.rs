@@ -1,8 +1,9 @@
-//! Document 01, 'Known lines', and the refusals' order, by the second implementation alone.
+//! Document 01, 'Known lines', and the refusals' order, by the second implementation alone. Expected numbers of new pixels
+//! (document 02, 'How much was new') are counted by hand on those lines' pixels.
 use crate::draw::{draw, draw_band, Band};
 use crate::frame::{ends, pixel, window};
 use crate::line::{m, Axis, Line};
-use crate::raster::{first_marked, row_view};
+use crate::raster::{first_marked, marks, row_view};
 use crate::refusal::Refusal;
 use crate::runs::{list_runs, paint_runs, runs};
 use crate::text::printed;
@@ -66,17 +67,85 @@ fn step_codes_of_h() {
 #[test]
 fn rasters_of_j_and_k() {
     let mut raster = [0];
-    let count = draw(&line(-3, 0, 3, 0), window(0, 0, 4, 1), &mut raster);
-    assert_eq!((count, raster), (Ok(4), [240]));
+    let counts = draw(&line(-3, 0, 3, 0), window(0, 0, 4, 1), &mut raster);
+    assert_eq!((counts, raster), (Ok(marks(4, 4)), [240]));
     let mut raster = [0; 8];
-    let count = draw(&line(0, 0, 11, 3), window(0, 0, 12, 4), &mut raster);
-    assert_eq!((count, raster), (Ok(12), [192, 0, 60, 0, 3, 192, 0, 48]));
+    let counts = draw(&line(0, 0, 11, 3), window(0, 0, 12, 4), &mut raster);
+    let k = [192, 0, 60, 0, 3, 192, 0, 48];
+    assert_eq!((counts, raster), (Ok(marks(12, 12)), k));
+}
+
+#[test]
+fn a_line_drawn_twice_has_nothing_new() {
+    let (k, frame) = (line(0, 0, 11, 3), window(0, 0, 12, 4));
+    let mut raster = [0; 8];
+    assert_eq!(draw(&k, frame, &mut raster), Ok(marks(12, 12)));
+    assert_eq!(draw(&k, frame, &mut raster), Ok(marks(12, 0)));
+}
+
+#[test]
+fn new_pixels_of_e_over_d() {
+    // (2, 1) and (0, 0) are D's too, (1, 0) is E's alone.
+    let frame = window(0, 0, 3, 2);
+    let mut raster = [0; 2];
+    let d = draw(&line(0, 0, 2, 1), frame, &mut raster);
+    assert_eq!((d, raster), (Ok(marks(3, 3)), [128, 96]));
+    let e = draw(&line(2, 1, 0, 0), frame, &mut raster);
+    assert_eq!((e, raster), (Ok(marks(3, 1)), [192, 96]));
+}
+
+#[test]
+fn marked_pixels_are_not_new() {
+    // Marked are K's (6, 2), (7, 0), which isn't K's, and all padding.
+    let mut raster = [1, 15, 0, 15, 2, 15, 0, 15];
+    let k = draw(&line(0, 0, 11, 3), window(0, 0, 12, 4), &mut raster);
+    let after = [193, 15, 60, 15, 3, 207, 0, 63];
+    assert_eq!((k, raster), (Ok(marks(12, 11)), after));
+    // Marked are J's columns 1 and 2, and all padding.
+    let mut raster = [0b0110_1111];
+    let j = draw(&line(-3, 0, 3, 0), window(0, 0, 4, 1), &mut raster);
+    assert_eq!((j, raster), (Ok(marks(4, 2)), [255]));
+}
+
+#[test]
+fn new_pixels_of_bands() {
+    // Marked are K's (0, 0) and (9, 2); K has 2, 4, 4 and 2 pixels in its rows.
+    let (k, frame) = (line(0, 0, 11, 3), window(0, 0, 12, 4));
+    let mut raster = [128, 0, 0, 0, 0, 64, 0, 0];
+    let mut band = |first, rows| draw_band(&k, frame, Band { first, rows }, &mut raster);
+    assert_eq!(band(1, 2), Ok(marks(8, 7)));
+    assert_eq!(band(2, 2), Ok(marks(6, 2)));
+    assert_eq!(band(2, 3), refused(6));
+    assert_eq!(band(0, 1), Ok(marks(2, 1)));
+    assert_eq!(band(0, 4), Ok(marks(12, 0)));
+    assert_eq!(raster, [192, 0, 60, 0, 3, 192, 0, 48]);
+}
+
+#[test]
+fn overlapping_runs_are_new_once() {
+    // Pixels 0, 1 and 1, 2 of a row and of a column.
+    let list = [0, 0, 2, 0, 1, 2];
+    let (row, column) = (window(0, 0, 4, 1), window(0, 0, 1, 3));
+    let mut raster = [0];
+    let counts = paint_runs(Axis::X, 2, &list, row, &mut raster);
+    assert_eq!((counts, raster), (Ok(marks(4, 3)), [224]));
+    // Pixel 0 is marked, and the padding.
+    let mut raster = [0b1000_1111];
+    let counts = paint_runs(Axis::X, 2, &list, row, &mut raster);
+    assert_eq!((counts, raster), (Ok(marks(4, 2)), [239]));
+    // Pixel 1 is marked, and row 0's padding.
+    let mut raster = [127, 128, 0];
+    let counts = paint_runs(Axis::Y, 2, &list, column, &mut raster);
+    assert_eq!((counts, raster), (Ok(marks(4, 2)), [255, 128, 128]));
+    // The whole row three times.
+    let counts = paint_runs(Axis::X, 3, &[0, -2, 7].repeat(3), row, &mut [0]);
+    assert_eq!(counts, Ok(marks(12, 4)));
 }
 
 #[test]
 fn limits_of_ends_window_and_list() {
     let one = window(0, 0, 1, 1);
-    assert_eq!(draw(&line(16383, 0, 0, 0), one, &mut [0]), Ok(1));
+    assert_eq!(draw(&line(16383, 0, 0, 0), one, &mut [0]), Ok(marks(1, 1)));
     assert_eq!(draw(&line(16384, 0, 0, 0), one, &mut [0]), refused(1));
     assert_eq!(window(0, 0, 8192, 1).check(), Ok(()));
     assert_eq!(window(0, 0, 0, 1).check(), refused(2));
@@ -116,8 +185,8 @@ fn painters_refusals() {
     let paint = |count, list: &[i32]| paint_runs(Axis::X, count, list, lawful, &mut [0]);
     assert_eq!(paint(0x55555556, &[0, 0, 1]), refused(7));
     assert_eq!(paint(1, &[0, 0]), refused(7));
-    assert_eq!(paint(2, &[0, 0, 2, 0, 1, 2]), Ok(4));
-    assert_eq!(paint(1, &[0, -16384, 32768]), Ok(4));
+    assert_eq!(paint(2, &[0, 0, 2, 0, 1, 2]), Ok(marks(4, 3)));
+    assert_eq!(paint(1, &[0, -16384, 32768]), Ok(marks(4, 4)));
     let eight = |place| Err(Refusal { number: 8, place });
     assert_eq!(paint(1, &[0, -16384, 32769]), eight(0));
     assert_eq!(paint(2, &[0, 0, 1, 0, 16383, i32::MAX]), eight(1));

@@ -1,5 +1,5 @@
-//! Document 01's operations, written a second time from its definitions: a division a step, no decision number, every pixel
-//! tested by itself, all arithmetic in 64 bits. It shares no code with the library that it is compared with.
+//! The operations of documents 01 and 02, written a second time from their definitions: a division a step, no decision number,
+//! every pixel tested by itself, all arithmetic in 64 bits. It shares no code with the library that it is compared with.
 #![forbid(unsafe_code)]
 
 pub mod draw;

@@ -1,7 +1,31 @@
-//! Document 01, 'Frame, raster, run list' and 'Operations': a raster's bits, the row view, the search.
+//! Document 01, 'Frame, raster, run list' and 'Operations': a raster's bits, the row view, the search. Document 02, 'How much
+//! was new': the counts of a drawing.
 use crate::frame::{pixel, Pixel, Window};
 use crate::refusal::{first_met, Refusal};
+use std::iter::Sum;
 use std::ops::Range;
+
+/// The counts of a drawing: its pixels in the window, and how many of those were unmarked. A pixel that is marked twice is
+/// counted twice in `count` and once in `fresh`, since its bit is 1 the second time.
+#[derive(Clone, Copy, Debug, Default, PartialEq)]
+pub struct Marks {
+    pub count: u64,
+    pub fresh: u64,
+}
+
+pub const fn marks(count: u64, fresh: u64) -> Marks {
+    Marks { count, fresh }
+}
+
+/// Wraps, since counts of a wrong library are added up too.
+impl Sum for Marks {
+    fn sum<I: Iterator<Item = Marks>>(all: I) -> Marks {
+        all.fold(Marks::default(), |sum, one| {
+            let count = sum.count.wrapping_add(one.count);
+            marks(count, sum.fresh.wrapping_add(one.fresh))
+        })
+    }
+}
 
 /// A pixel's bit: the byte it is in and what it is worth there; none where the pixel isn't in the window.
 pub fn bit_of(window: Window, pixel: Pixel) -> Option<(usize, u8)> {
@@ -18,14 +42,15 @@ pub fn bit_of(window: Window, pixel: Pixel) -> Option<(usize, u8)> {
     Some((byte as usize, 128 >> (column % 8)))
 }
 
-/// Marks the pixel if it is in the window: 1 if it is, else 0.
-pub fn mark(window: Window, raster: &mut [u8], pixel: Pixel) -> u64 {
+/// Marks the pixel if it is in the window: whether it is, and whether its bit was 0.
+pub fn mark(window: Window, raster: &mut [u8], pixel: Pixel) -> Marks {
     match bit_of(window, pixel) {
         Some((byte, worth)) => {
+            let unmarked = raster[byte] & worth == 0;
             raster[byte] |= worth;
-            1
+            marks(1, u64::from(unmarked))
         }
-        None => 0,
+        None => marks(0, 0),
     }
 }
 

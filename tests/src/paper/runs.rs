@@ -1,7 +1,7 @@
 //! Document 01, 'Operations': the run lister and the run painter.
 use crate::frame::{ends_out, out_of_range, pixel, Pixel, Window};
 use crate::line::{Axis, Line};
-use crate::raster::mark;
+use crate::raster::{mark, Marks};
 use crate::refusal::{first_met, Refusal};
 
 /// Short coordinate, lowest long coordinate, number of pixels.
@@ -81,8 +81,8 @@ fn counted_runs(count: u32, list: &[i32]) -> Vec<Run> {
     list.chunks_exact(3).take(count as usize).map(run).collect()
 }
 
-/// Marks the run's pixels in the window: how many they are.
-fn paint_run(axis: Axis, run: Run, window: Window, raster: &mut [u8]) -> u64 {
+/// Marks the run's pixels in the window: how many they are, and how many were unmarked.
+fn paint_run(axis: Axis, run: Run, window: Window, raster: &mut [u8]) -> Marks {
     let at = |long: i32| match axis {
         Axis::X => pixel(long, run.short),
         Axis::Y => pixel(run.short, long),
@@ -92,15 +92,15 @@ fn paint_run(axis: Axis, run: Run, window: Window, raster: &mut [u8]) -> u64 {
         .sum()
 }
 
-/// Marks the pixels of the first `count` runs in the window: their sum over the runs, an overlap counted each time. All runs
-/// are checked before the first bit changes.
+/// Marks the pixels of the first `count` runs in the window: their sum over the runs, an overlap counted each time, and how many
+/// pixels were unmarked, an overlap counted once. All runs are checked before the first bit changes.
 pub fn paint_runs(
     axis: Axis,
     count: u32,
     list: &[i32],
     window: Window,
     raster: &mut [u8],
-) -> Result<u64, Refusal> {
+) -> Result<Marks, Refusal> {
     first_met(&[
         (2, window.size_out()),
         (3, window.place_out()),

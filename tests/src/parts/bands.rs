@@ -1,12 +1,14 @@
 //! Lists of band calls on one raster, in random order with refused and repeated ones among them: compared after every call,
-//! and at the end with the line's pixels in the rows of all accepted bands; where those are all rows, also with painting.
+//! and at the end with the line's pixels in the rows of all accepted bands; where those are all rows, also with drawing the
+//! whole line and with painting. The new pixels of all calls are those that the raster has more at the end.
+use crate::added::added;
 use crate::comparison::{Comparison, Drawer, Stored};
 use crate::make::{ends, numbers, pixel_of, raster, window_at};
 use crate::random::Random;
 use paper::draw::Band;
 use paper::frame::Window;
 use paper::line::Line;
-use paper::raster::mark;
+use paper::raster::{mark, Marks};
 
 const LISTS: u32 = 600_000;
 const HIGHEST_WINDOW: u32 = 24;
@@ -43,9 +45,10 @@ fn calls(random: &mut Random, height: u32) -> Vec<Band> {
     calls
 }
 
-/// Whether an accepted band has the row, counted from 0 at the window's top.
-fn accepted(calls: &[Band], window: Window, row: i64) -> bool {
-    calls.iter().any(|band| !band.out(window) && band.has(row))
+/// How many accepted bands have the row, counted from 0 at the window's top.
+fn accepted(calls: &[Band], window: Window, row: i64) -> usize {
+    let has = |band: &&Band| !band.out(window) && band.has(row);
+    calls.iter().filter(has).count()
 }
 
 /// The start plus the line's pixels in the rows of the accepted bands.
@@ -53,50 +56,98 @@ fn after(line: &Line, window: Window, calls: &[Band], start: &[u8]) -> Vec<u8> {
     let mut raster = start.to_vec();
     for pixel in &line.pixels {
         let row = i64::from(pixel.row) - i64::from(window.top);
-        if accepted(calls, window, row) {
+        if accepted(calls, window, row) > 0 {
             mark(window, &mut raster, *pixel);
         }
     }
     raster
 }
 
-/// Listing and painting from the same start; the raster that it leaves.
-fn painted(
-    comparison: &mut Comparison,
-    random: &mut Random,
-    line: &Line,
+/// A line, a window and a raster to start from, for every way of drawing.
+struct Job {
+    line: Line,
     window: Window,
-    start: &[u8],
-) -> Vec<u8> {
-    let empty = numbers(random, 3 * (line.short as usize + 1));
-    let list = comparison.list(line, &empty).to_vec();
-    comparison.paint(Stored::of(line, &list), window, start);
-    comparison.raster().to_vec()
+    start: Vec<u8>,
+}
+
+/// What a way of drawing left, and its counts by the library.
+struct Outcome {
+    raster: Vec<u8>,
+    counts: Marks,
+}
+
+impl Job {
+    fn new(random: &mut Random) -> Job {
+        let line = Line::new(ends(random, 60));
+        let near = pixel_of(random, &line);
+        let (width, height) = (1 + random.below(40), 1 + random.below(HIGHEST_WINDOW));
+        let window = window_at(random, near, width, height);
+        let start = raster(random, window);
+        Job {
+            line,
+            window,
+            start,
+        }
+    }
+
+    /// All calls on one raster, with the sums of their counts.
+    fn in_bands(&self, comparison: &mut Comparison, calls: &[Band]) -> Outcome {
+        comparison.lend(&self.start);
+        let bands = calls.iter().map(|band| Drawer::Band(*band));
+        let counts = bands
+            .map(|band| comparison.draw_again(band, &self.line, self.window))
+            .sum();
+        outcome(comparison, counts)
+    }
+
+    fn whole(&self, comparison: &mut Comparison) -> Outcome {
+        let counts = comparison.draw(Drawer::Single, &self.line, self.window, &self.start);
+        outcome(comparison, counts)
+    }
+
+    fn listed_and_painted(&self, comparison: &mut Comparison, random: &mut Random) -> Outcome {
+        let empty = numbers(random, 3 * (self.line.short as usize + 1));
+        let list = comparison.list(&self.line, &empty).to_vec();
+        let counts = comparison.paint(Stored::of(&self.line, &list), self.window, &self.start);
+        outcome(comparison, counts)
+    }
+}
+
+fn outcome(comparison: &Comparison, counts: Marks) -> Outcome {
+    Outcome {
+        raster: comparison.raster().to_vec(),
+        counts,
+    }
 }
 
 fn one_list(comparison: &mut Comparison, random: &mut Random) {
-    let line = Line::new(ends(random, 60));
-    let near = pixel_of(random, &line);
-    let (width, height) = (1 + random.below(40), 1 + random.below(HIGHEST_WINDOW));
-    let window = window_at(random, near, width, height);
-    let start = raster(random, window);
-    let calls = calls(random, height);
-    comparison.lend(&start);
-    for band in &calls {
-        comparison.draw_again(Drawer::Band(*band), &line, window);
+    let job = Job::new(random);
+    let (line, window) = (&job.line, job.window);
+    let calls = calls(random, window.height);
+    let bands = job.in_bands(comparison, &calls);
+    let expected = after(line, window, &calls, &job.start);
+    comparison.same("a list of bands", line, window, &bands.raster, &expected);
+    let added = added(window, &job.start, &bands.raster);
+    let fresh = Some(bands.counts.fresh);
+    comparison.same("new pixels by bands", line, window, &fresh, &added);
+    let rows = 0..i64::from(window.height);
+    let times: Vec<usize> = rows.map(|row| accepted(&calls, window, row)).collect();
+    if times.contains(&0) {
+        return;
     }
-    let by_bands = comparison.raster().to_vec();
-    let expected = after(&line, window, &calls, &start);
-    comparison.same("a list of bands", &line, window, &by_bands, &expected);
-    if (0..i64::from(height)).all(|row| accepted(&calls, window, row)) {
-        let painted = painted(comparison, random, &line, window, &start);
-        comparison.same(
-            "bands of all rows, and painting",
-            &line,
-            window,
-            &by_bands,
-            &painted,
-        );
+    let whole = job.whole(comparison);
+    let painted = job.listed_and_painted(comparison, random);
+    let ways = [
+        ("bands of all rows, and the whole line", whole),
+        ("bands of all rows, and painting", painted),
+    ];
+    for (what, way) in ways {
+        comparison.same(what, line, window, &bands.raster, &way.raster);
+        let (sum, fresh) = (bands.counts.fresh, way.counts.fresh);
+        comparison.same(what, line, window, &sum, &fresh);
+        if times.iter().all(|n| *n == 1) {
+            comparison.same(what, line, window, &bands.counts, &way.counts);
+        }
     }
 }
 

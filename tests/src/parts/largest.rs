@@ -44,7 +44,8 @@ fn look(comparison: &mut Comparison, window: Window) {
     comparison.draw(Drawer::Single, &Line::new(ENDS[0]), window, &start[..last]);
 }
 
-/// A sum that does not fit in 32 bits: the same run of 8192 pixels, 2^19 + 1 times, in a window of one row.
+/// A sum that does not fit in 32 bits: the same run of 8192 pixels, 2^19 + 1 times, in a window of one row. Its pixels are new
+/// once at most.
 fn largest_sum(comparison: &mut Comparison) {
     let runs = (1 << 19) + 1;
     let window = window(0, 0, SIDE, 1);
@@ -54,12 +55,16 @@ fn largest_sum(comparison: &mut Comparison) {
         count: runs,
         list: &list,
     };
-    let sum = c::Drawn {
-        refused: 0,
-        place: 0,
-        count: u64::from(runs) * u64::from(SIDE),
-    };
-    comparison.paint_known(stored, window, &[0; 1024], sum, &[255; 1024]);
+    // A clear row, and one with four marked pixels in each byte.
+    for (byte, fresh) in [(0, 8192), (0x5A, 4096)] {
+        let sum = c::Drawn {
+            refused: 0,
+            place: 0,
+            count: u64::from(runs) * u64::from(SIDE),
+            fresh,
+        };
+        comparison.paint_known(stored, window, &[byte; 1024], sum, &[255; 1024]);
+    }
 }
 
 pub fn run(comparison: &mut Comparison, random: &mut Random) {
@@ -71,9 +76,8 @@ pub fn run(comparison: &mut Comparison, random: &mut Random) {
     ];
     for ((left, top), width) in places.into_iter().zip([SIDE, SIDE, SIDE - 1, SIDE - 1]) {
         let window = window(left, top, width, SIDE);
-        let start = raster(random, window);
         for ends in ENDS {
-            draw(comparison, window, &start, ends);
+            draw(comparison, window, &raster(random, window), ends);
         }
         look(comparison, window);
     }

@@ -1,5 +1,5 @@
-//! Random lines over the whole coordinate range, each in some windows at it and far from it, by every drawer, by listing and
-//! painting, and in a band.
+//! Random lines over the whole coordinate range, each in some windows at it and far from it, by every drawer, once more where
+//! it is drawn already, by listing and painting, and in a band.
 use crate::comparison::{Comparison, Drawer, Stored};
 use crate::make::{ends, numbers, raster, window_near};
 use crate::random::Random;
@@ -28,6 +28,7 @@ fn in_window(comparison: &mut Comparison, random: &mut Random, line: &Line, stor
     let start = raster(random, window);
     comparison.draw(Drawer::Single, line, window, &start);
     comparison.draw(Drawer::Double, line, window, &start);
+    comparison.draw_again(Drawer::Single, line, window);
     comparison.draw(Drawer::Band(band(random, window)), line, window, &start);
     comparison.paint(stored, window, &start);
 }

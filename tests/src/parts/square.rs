@@ -1,11 +1,12 @@
 //! All pairs of ends in a small square with all small windows at and around it: every drawer, listing and painting, and band
-//! by band.
+//! by band, where the bands' counts add up to the whole line's.
 use crate::comparison::{Comparison, Drawer, Stored};
 use crate::make::{numbers, raster};
 use crate::random::Random;
 use paper::draw::Band;
 use paper::frame::{ends, window, Ends, Window};
 use paper::line::Line;
+use paper::raster::Marks;
 
 const SIDE: i32 = 7;
 const LARGEST: u32 = 4;
@@ -42,14 +43,15 @@ fn all_ends() -> Vec<Ends> {
 
 /// The line in the window, each way of drawing from the same start.
 fn every_way(comparison: &mut Comparison, line: &Line, list: &[i32], window: Window, start: &[u8]) {
-    comparison.draw(Drawer::Single, line, window, start);
+    let whole = comparison.draw(Drawer::Single, line, window, start);
     comparison.draw(Drawer::Double, line, window, start);
     comparison.paint(Stored::of(line, list), window, start);
-    let row = |first| Drawer::Band(Band { first, rows: 1 });
-    comparison.draw(row(0), line, window, start);
-    for first in 1..window.height {
-        comparison.draw_again(row(first), line, window);
-    }
+    comparison.lend(start);
+    let bands = (0..window.height).map(|first| Drawer::Band(Band { first, rows: 1 }));
+    let rows: Marks = bands
+        .map(|band| comparison.draw_again(band, line, window))
+        .sum();
+    comparison.same("row by row, and the whole", line, window, &rows, &whole);
 }
 
 pub fn run(comparison: &mut Comparison, random: &mut Random) {

@@ -1,4 +1,5 @@
-//! Random run lists with overlaps, along both axes; a few with a bad run, and numbers of any size after the counted runs.
+//! Random run lists with overlaps, along both axes, each painted twice; a few with a bad run, and numbers of any size after the
+//! counted runs.
 use crate::comparison::{Comparison, Stored};
 use crate::make::{any_pixel, coordinate, in_range, numbers, raster, window_at};
 use crate::random::Random;
@@ -51,6 +52,8 @@ fn one_list(comparison: &mut Comparison, random: &mut Random) {
         list: &list,
     };
     comparison.paint(stored, window, &raster(random, window));
+    let painted = comparison.raster().to_vec();
+    comparison.paint(stored, window, &painted);
 }
 
 pub fn run(comparison: &mut Comparison, random: &mut Random) {

@@ -5,7 +5,7 @@ use mathlib.Core.Path.{_≡_, sym, ap, _∙_}
 use lib.ListN.{length}
 use Rattle.refusal.specs.Refusal.{answer, unlessRefused, firstMet}
 use Rattle.refusal.proofs.Handing.{refused-by, passed-by, handed-on, kept}
-use Rattle.band.specs.Drawing.{bandConditions, bandCount, bandRaster}
+use Rattle.band.specs.Drawing.{bandConditions, bandMarks, bandRaster}
 use Rattle.band.proofs.draw.draw_band.Statement.{statement}
 use Rattle.band.proofs.draw.draw_band.Tie as tie
 
@@ -27,7 +27,7 @@ returns c =
     let s = after .before .before in
     let a = s .args in
     let told = refused-by (after .check-band .result) (number s) (after .check-band .ensures) (known .0 .0) (known .1) in (
-      handed-on (known .0 .0) (number s) (bandCount (a .ends) (a .window) (a .first) (a .rows)) told,
+      handed-on (known .0 .0) (number s) (bandMarks (a .ends) (a .window) (a .raster .now) (a .first) (a .rows)) told,
       kept (known .0 .0) (number s) (bandRaster (a .ends) (a .window) (a .first) (a .rows) (a .raster .now)) (a .raster .now) told,
     )
 
@@ -52,7 +52,7 @@ returns-2 c =
     let after = c .before .before in
     let s = after .before .before .before .before .before .before in
     let a = s .args in (
-      after .draw-rows .ensures .0 ∙ ap (λ (n : ℕ). answer n (bandCount (a .ends) (a .window) (a .first) (a .rows))) (sym (within (after .before .before))),
+      after .draw-rows .ensures .0 ∙ ap (λ (n : ℕ). answer n (bandMarks (a .ends) (a .window) (a .raster .now) (a .first) (a .rows))) (sym (within (after .before .before))),
       after .draw-rows .ensures .1 ∙ ap (λ (n : ℕ). unlessRefused n (bandRaster (a .ends) (a .window) (a .first) (a .rows) (a .raster .now)) (a .raster .now)) (sym (within (after .before .before))),
     )
 

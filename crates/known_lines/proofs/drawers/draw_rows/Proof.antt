@@ -7,10 +7,10 @@ use Rattle.known_lines.proofs.drawers.draw_rows.Statement.{statement}
 use Rattle.known_lines.proofs.drawers.draw_rows.Tie as tie
 
 abbrev Inv-loop : tie.InvT-loop
-Inv-loop ends window raster₀ count₀ row₀ raster count row = (row ≤ window .height) × (length raster ≡ length raster₀)
+Inv-loop ends window raster₀ count₀ fresh₀ row₀ raster count fresh row = (row ≤ window .height) × (length raster ≡ length raster₀)
 
 abbrev μ-loop : tie.MeasureT-loop
-μ-loop ends window raster₀ count₀ row₀ raster count row = window .height - row
+μ-loop ends window raster₀ count₀ fresh₀ row₀ raster count fresh row = window .height - row
 
 loop-holds : tie.Need-loop-holds Inv-loop μ-loop
 loop-holds c = search needs
@@ -23,6 +23,9 @@ enum-known-marks c = search needs
 
 wrapping-add-u64-requires : tie.Need-wrapping-add-u64-requires Inv-loop μ-loop
 wrapping-add-u64-requires c κs = search needs
+
+wrapping-add-u64-requires-2 : tie.Need-wrapping-add-u64-requires-2 Inv-loop μ-loop
+wrapping-add-u64-requires-2 c κs = search needs
 
 enum-known-refusal : tie.Need-enum-known-refusal Inv-loop μ-loop
 enum-known-refusal c = search needs
@@ -58,6 +61,7 @@ draw-rows-spec =
     draw-band-requires
     enum-known-marks
     wrapping-add-u64-requires
+    wrapping-add-u64-requires-2
     enum-known-refusal
     same-length
     returns

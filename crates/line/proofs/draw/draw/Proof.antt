@@ -1,13 +1,11 @@
 -- Each return is a case of the law of what a drawer answers and leaves.
 use borrow.Author.Needs.{needs}
-use Prim.Native.Nat.{_-_}
 use mathlib.Core.Path.{_≡_, ap, _∙_}
 use lib.ListN.{length}
-use Rattle.raster.specs.Raster.{plus}
 use Rattle.raster.proofs.Frames.{window-in}
 use Rattle.raster.proofs.Plus.{plus-length}
 use Rattle.refusal.proofs.Handing.{refused-by, passed-by}
-use Rattle.line.specs.Walk.{Visible, stepPixels}
+use Rattle.line.specs.Walk.{Visible}
 use Rattle.line.specs.declared.ends.Ends.{Ends}
 use Rattle.line.proofs.Whole.{shown-visible}
 use Rattle.line.proofs.Drawn.{number, drawn-refused, drawn-unseen, drawn-walked, ends-in, frame-in}
@@ -72,6 +70,9 @@ walk-by-requires c κs =
       shown-visible _ _ _ (after .visible-steps .ensures) (c .before .if1 .left),
     )
 
+cast-fresh : tie.Need-cast-fresh
+cast-fresh c = search needs
+
 sub-count : tie.Need-sub-count
 sub-count c = search needs
 
@@ -79,16 +80,15 @@ cast-count : tie.Need-cast-count
 cast-count c = search needs
 
 same-length : tie.Need-same-length
-same-length c = ap length (c .before .before .walk-by .ensures) ∙ plus-length _ _ _
+same-length c = ap length (c .before .before .walk-by .ensures .0) ∙ plus-length _ _ _
 
 returns-3 : tie.Need-returns-3
 returns-3 c =
     let after = c .before .before .before .before .before in
     let s = entry (after .before .before) in
     let v = after .visible-steps .result in
-    drawn-walked (s .args .ends) (s .args .window) (s .args .raster .now) (within (after .before .before)) v (visible after) _
-    (c .before .before .walk-by .ensures
-    ∙ ap (λ (e : Ends). plus (s .args .window) (s .args .raster .now) (stepPixels e (v .from) (v .end - v .from))) (after .before .line-of .ensures .0))
+    drawn-walked (s .args .ends) (s .args .window) (s .args .raster .now) (within (after .before .before)) v (visible after) _ _
+    (rw (after .before .line-of .ensures .0) at (c .before .before .walk-by .ensures))
 
 pub draw-spec : {M : Type 1} → statement M
 draw-spec =
@@ -102,6 +102,7 @@ draw-spec =
     visible-steps-requires
     returns-2
     walk-by-requires
+    cast-fresh
     sub-count
     cast-count
     same-length

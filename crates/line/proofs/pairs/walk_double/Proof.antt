@@ -1,15 +1,18 @@
 -- An odd first step is marked by itself; the pairs that follow mark the rest, and both together are all steps.
 use Prim.Native.Nat.{ℕ, _+_, _%_, _≤_, _<_}
-use mathlib.Core.Path.{_≡_, refl}
+use mathlib.Core.Path.{_≡_, refl, ap, _∙_}
 use mathlib.Core.Bool.{true}
 use mathlib.Core.List.{List}
 use native.Mathlib.Omega.{arith}
+use native.Mathlib.Nat.{zero-add}
 use lib.ListN.{length}
 use borrow.Author.Needs.{needs}
-use Rattle.raster.proofs.Frames.{Frame, frame, window-in}
+use Rattle.raster.proofs.Frames.{Frame, frame, window-in, raster-max}
+use Rattle.raster.proofs.Plus.{plus-length}
+use Rattle.raster.proofs.Fresh.{new-most}
 use Rattle.line.specs.Walk.{seen}
 use Rattle.line.proofs.Stepping.{shown-part, bit-max}
-use Rattle.line.proofs.Marking.{Marked, marked-first, marked-in, marked-on, marked-length, marked-end}
+use Rattle.line.proofs.Marking.{Marked, Walked, marked-first, marked-in, marked-on, marked-length, marked-end}
 use Rattle.line.proofs.Pairing.{marked-rest}
 use Rattle.line.proofs.pairs.walk_double.Statement.{statement}
 use Rattle.line.proofs.pairs.walk_double.Tie as tie
@@ -48,14 +51,14 @@ module _ (c : tie.After-enter) where
   abbrev entry : tie.Start
   entry = c .before .before .before
 
-  -- the steps before step j are marked
-  abbrev Done : List ℕ → ℕ → Type 0
-  Done raster j = Marked (entry .args .line .ends) (entry .args .window) (entry .args .raster .now) (entry .args .from) raster j
+  -- the steps before step j are marked, with n new bits
+  abbrev Done : List ℕ → ℕ → ℕ → Type 0
+  Done raster n j = Marked (entry .args .line .ends) (entry .args .window) (entry .args .raster .now) (entry .args .from) raster n j
 
   framed : Frame (entry .args .window) (length (entry .args .raster .now))
   framed = frame _ _ (entry .pre .1)
 
-  none : Done (entry .args .raster .now) (entry .args .from)
+  none : Done (entry .args .raster .now) 0 (entry .args .from)
   none = marked-first framed (λ i _. c .before .before .slice-known .given i .fits)
 
 put-bit-requires : tie.Need-put-bit-requires
@@ -67,8 +70,10 @@ module _ (c : tie.After-put-bit) where
   abbrev single : tie.After-enter
   single = c .before .before .before .before
 
-  one : Done single (c .put-bit .last .1 .1 .0) (entry single .args .from + 1)
-  one = marked-on (framed single) (none single) (c .put-bit .ensures) (single .enter .ensures .bit-is) (here (entry single))
+  one : Done single (c .put-bit .last .1 .1 .0) (c .put-bit .result) (entry single .args .from + 1)
+  one =
+      rw (zero-add (c .put-bit .result)) at
+      (marked-on (framed single) (c .put-bit .result) (none single) (c .put-bit .ensures) (single .enter .ensures .bit-is) (here (entry single)))
 
 add-if2 : tie.Need-add-if2
 add-if2 c = search needs
@@ -122,13 +127,27 @@ walk-pairs-requires-2 c κs =
       odd (s .args .from) (p .before .before .before .if1 .left),
     )
 
+-- together they are all steps
+module _ (c : tie.After-slice-known4) where
+  abbrev put : tie.After-put-bit
+  put = c .before .before .before .before .before .before .before .before
+
+  all : let s = entry (single put) in
+      Walked (s .args .line .ends) (s .args .window) (s .args .raster .now) (s .args .from) (s .args .end)
+      (c .before .before .walk-pairs2 .last .1 .1 .1 .1 .1 .1 .0) (put .put-bit .result + c .before .before .walk-pairs2 .result)
+  all =
+      marked-rest (entry (single put) .args .end) _ (one put) (omega (arith, more (c .before .before .before .before .before))) (c .before .before .walk-pairs2 .ensures)
+
+add-result : tie.Need-add-result
+add-result c =
+    let small = raster-max _ _ (framed (single (put c))) in
+    record { fits = omega (arith, new-most _ _ _ (ap length (all c .0) ∙ plus-length _ _ _) small (all c .1)) }
+
 same-length-3 : tie.Need-same-length-3
 same-length-3 c = search needs
 
 returns-3 : tie.Need-returns-3
-returns-3 c =
-    let p = c .before .before .before .before .before .before .before .before in
-    marked-rest (entry (single p) .args .end) (one p) (omega (arith, more (c .before .before .before .before .before))) (c .before .before .walk-pairs2 .ensures)
+returns-3 c = all c
 
 pub walk-double-spec : {M : Type 1} → statement M
 walk-double-spec =
@@ -146,5 +165,6 @@ walk-double-spec =
     next-requires
     add-walk-pairs
     walk-pairs-requires-2
+    add-result
     same-length-3
     returns-3)

@@ -5,22 +5,20 @@ use mathlib.Core.Bool.{true}
 use mathlib.Core.List.{List}
 use native.Mathlib.Omega.{arith}
 use lib.ListN.{length}
-use lib.Dec.{eqb}
-use Rattle.raster.specs.Bits.{withBits}
 use Rattle.raster.proofs.Frames.{Frame, frame}
 use Rattle.line.specs.Walk.{seen, Shown, stepBit, Stands}
 use Rattle.line.proofs.Stepping.{shown-part, bit-max}
-use Rattle.line.proofs.Marking.{Marked, marked-first, marked-in, marked-on, marked-length, marked-end}
+use Rattle.line.proofs.Marking.{Marked, Put, marked-first, marked-few, marked-in, marked-on, marked-length, marked-end}
 use Rattle.line.proofs.Pairing.{end-max}
 use Rattle.line.proofs.pairs.walk_pairs.Statement.{statement}
 use Rattle.line.proofs.pairs.walk_pairs.Tie as tie
 
 abbrev Inv-loop : tie.InvT-loop
-Inv-loop line window by from end raster₀ mask at₀ i₀ raster at i =
-    (i < end) × Stands (line .ends) window i at × Marked (line .ends) window raster₀ from raster i
+Inv-loop line window by from end raster₀ mask at₀ fresh₀ i₀ raster at fresh i =
+    (i < end) × Stands (line .ends) window i at × Marked (line .ends) window raster₀ from raster fresh i
 
 abbrev μ-loop : tie.MeasureT-loop
-μ-loop line window by from end raster₀ mask at₀ i₀ raster at i = end - i
+μ-loop line window by from end raster₀ mask at₀ fresh₀ i₀ raster at fresh i = end - i
 
 -- ---- at the loop's test
 
@@ -28,9 +26,9 @@ module _ (c : tie.At-loop Inv-loop μ-loop) where
   abbrev entry : tie.Start Inv-loop μ-loop
   entry = c .before .before
 
-  -- the steps before step j are marked
-  abbrev Done : List ℕ → ℕ → Type 0
-  Done raster j = Marked (entry .args .line .ends) (entry .args .window) (entry .args .raster .now) (entry .args .from) raster j
+  -- the steps before step j are marked, with n new bits
+  abbrev Done : List ℕ → ℕ → ℕ → Type 0
+  Done raster n j = Marked (entry .args .line .ends) (entry .args .window) (entry .args .raster .now) (entry .args .from) raster n j
 
   framed : Frame (entry .args .window) (length (entry .args .raster .now))
   framed = frame _ _ (entry .pre .1)
@@ -54,9 +52,12 @@ module _ (c : tie.At-loop Inv-loop μ-loop) where
   first-in : c .loop .at .bit / 8 < length (c .loop .raster)
   first-in = marked-in framed (c .loop .i) (c .loop .inv .2) (c .loop .inv .1 .bit-is) here
 
-  module _ {raster : List ℕ} (set : raster ≡ withBits (λ q. eqb q (c .loop .at .bit)) (c .loop .raster)) where
-    first : Done raster (c .loop .i + 1)
-    first = marked-on framed (c .loop .inv .2) set (c .loop .inv .1 .bit-is) here
+  module _ {raster : List ℕ} (n : ℕ) (set : Put (c .loop .at .bit) (c .loop .raster) raster n) where
+    first : Done raster (c .loop .fresh + n) (c .loop .i + 1)
+    first = marked-on framed n (c .loop .inv .2) set (c .loop .inv .1 .bit-is) here
+
+    first-few : c .loop .fresh + n ≤ 67108864
+    first-few = marked-few framed first
 
     -- and so is the next step's bit
     module _ {p : ℕ} (is : p ≡ stepBit (entry .args .line .ends) (entry .args .window) (c .loop .i + 1))
@@ -64,10 +65,10 @@ module _ (c : tie.At-loop Inv-loop μ-loop) where
       second-in : p / 8 < length raster
       second-in = marked-in framed (c .loop .i + 1) first is (visible (c .loop .i + 1) (omega arith) l)
 
-      second : {raster′ : List ℕ} → raster′ ≡ withBits (λ q. eqb q p) raster → Done raster′ (c .loop .i + 2)
-      second q =
+      second : {raster′ : List ℕ} (m : ℕ) → Put p raster raster′ m → Done raster′ (c .loop .fresh + n + m) (c .loop .i + 2)
+      second m q =
           let e : c .loop .i + 1 + 1 ≡ c .loop .i + 2 = omega arith in
-          rw e at (marked-on framed first q is (visible (c .loop .i + 1) (omega arith) l))
+          rw e at (marked-on framed m first q is (visible (c .loop .i + 1) (omega arith) l))
 
 loop-holds : tie.Need-loop-holds Inv-loop μ-loop
 loop-holds c =
@@ -81,6 +82,10 @@ add-loop c = omega (arith, near c)
 
 put-bit-requires : tie.Need-put-bit-requires Inv-loop μ-loop
 put-bit-requires c κs = (refl, first-in (c .before .before .before))
+
+add-fresh : tie.Need-add-fresh Inv-loop μ-loop
+add-fresh c =
+    record { fits = omega (arith, first-few (c .before .before .before .before .before .before) _ (c .before .before .put-bit .ensures)) }
 
 pair-of-requires : tie.Need-pair-of-requires Inv-loop μ-loop
 pair-of-requires c κs =
@@ -103,7 +108,22 @@ module _ (c : tie.After-pair-of Inv-loop μ-loop) where
 put-bit-requires-2 : tie.Need-put-bit-requires-2 Inv-loop μ-loop
 put-bit-requires-2 c κs =
     let p = c .before .before in
-    (refl, second-in (turn p .before) (p .before .before .before .put-bit .ensures) (p .pair-of .ensures .middle-is) (omega (arith, more p)))
+    (refl, second-in (turn p .before) _ (p .before .before .before .put-bit .ensures) (p .pair-of .ensures .middle-is) (omega (arith, more p)))
+
+-- both steps of the pair are marked
+module _ (c : tie.After-slice-known3 Inv-loop μ-loop) where
+  abbrev found : tie.After-pair-of Inv-loop μ-loop
+  found = c .before .before .before .before .before
+
+  pair : let a = turn found .before in
+      Done a (c .before .before .put-bit2 .last .1 .1 .0)
+      (a .loop .fresh + found .before .before .before .put-bit .result + c .before .before .put-bit2 .result) (a .loop .i + 2)
+  pair =
+      second (turn found .before) _ (found .before .before .before .put-bit .ensures) (found .pair-of .ensures .middle-is)
+      (omega (arith, more found)) _ (c .before .before .put-bit2 .ensures)
+
+add-fresh-2 : tie.Need-add-fresh-2 Inv-loop μ-loop
+add-fresh-2 c = record { fits = omega (arith, marked-few (framed (turn (found c) .before)) (pair c)) }
 
 add-i : tie.Need-add-i Inv-loop μ-loop
 add-i c = let p = c .before .before .before .before .before in omega (arith, near (turn p .before), more p)
@@ -117,7 +137,7 @@ loop-again c =
     let e = p .pair-of .ensures in (
       omega (arith, more p),
       record { bit-is = e .bit-is; rest-is = e .rest-is },
-      second (turn p .before) (p .before .before .before .put-bit .ensures) (e .middle-is) (omega (arith, more p)) (c .before .before .put-bit2 .ensures),
+      second (turn p .before) _ (p .before .before .before .put-bit .ensures) (e .middle-is) (omega (arith, more p)) _ (c .before .before .put-bit2 .ensures),
     )
 
 -- ---- after the loop
@@ -131,6 +151,10 @@ module _ (c : tie.After-put-bit3 Inv-loop μ-loop) where
 
   past : entry last .args .end ≤ last .loop .i + 2
   past = c .before .before .before .loop-test .left
+
+add-fresh-3 : tie.Need-add-fresh-3 Inv-loop μ-loop
+add-fresh-3 c =
+    record { fits = omega (arith, first-few (last (c .before .before)) _ (c .before .before .put-bit3 .ensures)) }
 
 add-if1 : tie.Need-add-if1 Inv-loop μ-loop
 add-if1 c = omega (arith, near (last (c .before .before)))
@@ -149,17 +173,20 @@ put-bit-requires-4 : tie.Need-put-bit-requires-4 Inv-loop μ-loop
 put-bit-requires-4 c κs =
     let n = c .before .before in
     let p = n .before .before .before .before in
-    (refl, second-in (last p) (p .put-bit3 .ensures) (n .next .ensures .bit-is) (omega (arith, n .before .if1 .taken)))
+    (refl, second-in (last p) _ (p .put-bit3 .ensures) (n .next .ensures .bit-is) (omega (arith, n .before .if1 .taken)))
 
 -- two steps were left
 module _ (c : tie.After-put-bit4 Inv-loop μ-loop) where
   abbrev third : tie.After-put-bit3 Inv-loop μ-loop
   third = c .before .before .before .before .before .before .before
 
-  both : Done (last third) (c .put-bit4 .last .1 .1 .0) (last third .loop .i + 2)
+  both : Done (last third) (c .put-bit4 .last .1 .1 .0) (last third .loop .fresh + third .put-bit3 .result + c .put-bit4 .result) (last third .loop .i + 2)
   both =
       let n = c .before .before .before in
-      second (last third) (third .put-bit3 .ensures) (n .next .ensures .bit-is) (omega (arith, n .before .if1 .taken)) (c .put-bit4 .ensures)
+      second (last third) _ (third .put-bit3 .ensures) (n .next .ensures .bit-is) (omega (arith, n .before .if1 .taken)) _ (c .put-bit4 .ensures)
+
+add-fresh-4 : tie.Need-add-fresh-4 Inv-loop μ-loop
+add-fresh-4 c = let f = c .before .before in record { fits = omega (arith, marked-few (framed (last (third f))) (both f)) }
 
 same-length : tie.Need-same-length Inv-loop μ-loop
 same-length c = let f = c .before .before in marked-length (framed (last (third f))) (both f)
@@ -171,8 +198,8 @@ returns c =
     marked-end (framed a) (entry a .args .end) (both f) (omega (arith, past (third f), f .before .before .before .before .if1 .taken))
 
 -- one step was left
-one : (c : tie.After-put-bit3 Inv-loop μ-loop) → Done (last c) (c .put-bit3 .last .1 .1 .0) (last c .loop .i + 1)
-one c = first (last c) (c .put-bit3 .ensures)
+one : (c : tie.After-put-bit3 Inv-loop μ-loop) → Done (last c) (c .put-bit3 .last .1 .1 .0) (last c .loop .fresh + c .put-bit3 .result) (last c .loop .i + 1)
+one c = first (last c) _ (c .put-bit3 .ensures)
 
 same-length-2 : tie.Need-same-length-2 Inv-loop μ-loop
 same-length-2 c = let p = c .before .before .before in marked-length (framed (last p)) (one p)
@@ -191,15 +218,19 @@ walk-pairs-spec =
     loop-holds
     add-loop
     put-bit-requires
+    add-fresh
     pair-of-requires
     put-bit-requires-2
+    add-fresh-2
     add-i
     loop-less
     loop-again
     put-bit-requires-3
+    add-fresh-3
     add-if1
     next-requires
     put-bit-requires-4
+    add-fresh-4
     same-length
     returns
     same-length-2

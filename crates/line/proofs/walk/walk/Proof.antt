@@ -1,4 +1,4 @@
--- At step i the walk stands at its pixel, and the steps before it are marked.
+-- At step i the walk stands at its pixel, the steps before it are marked, and `fresh` is what the bits grew by.
 use borrow.Author.Needs.{needs}
 use Prim.Native.Nat.{ℕ, _+_, _-_, _<_}
 use mathlib.Core.Path.{_≡_, refl}
@@ -7,16 +7,16 @@ use native.Mathlib.Omega.{arith}
 use Rattle.raster.proofs.Frames.{frame, window-in}
 use Rattle.line.specs.Walk.{seen, Stands}
 use Rattle.line.proofs.Stepping.{shown-part, bit-max}
-use Rattle.line.proofs.Marking.{Marked, marked-first, marked-in, marked-on, marked-end, marked-length}
+use Rattle.line.proofs.Marking.{Marked, marked-first, marked-few, marked-in, marked-on, marked-end, marked-length}
 use Rattle.line.proofs.walk.walk.Statement.{statement}
 use Rattle.line.proofs.walk.walk.Tie as tie
 
 abbrev Inv-loop : tie.InvT-loop
-Inv-loop line window from end raster₀ mask by at₀ i₀ raster at i =
-    (i < end) × Stands (line .ends) window i at × Marked (line .ends) window raster₀ from raster i
+Inv-loop line window from end raster₀ mask by at₀ fresh₀ i₀ raster at fresh i =
+    (i < end) × Stands (line .ends) window i at × Marked (line .ends) window raster₀ from raster fresh i
 
 abbrev μ-loop : tie.MeasureT-loop
-μ-loop line window from end raster₀ mask by at₀ i₀ raster at i = end - i
+μ-loop line window from end raster₀ mask by at₀ fresh₀ i₀ raster at fresh i = end - i
 
 more : (i n : ℕ) → i < n → (i + 1 ≡ n → ⊥) → i + 1 < n
 more i n h k = omega (arith, h, k)
@@ -48,16 +48,20 @@ put-bit-requires c κs =
     let at = c .before .before in
     (refl, marked-in (frame _ _ (s at .pre .1)) (at .loop .i) (at .loop .inv .2) (at .loop .inv .1 .bit-is) (here at))
 
-add-if1 : tie.Need-add-if1 Inv-loop μ-loop
-add-if1 c = search needs
-
 -- the present step is marked
 module _ (c : tie.After-slice-known2 Inv-loop μ-loop) where
   abbrev at : tie.At-loop Inv-loop μ-loop
   at = c .before .before .before .before .before
 
-  marked : Marked (s at .args .line .ends) (s at .args .window) (s at .args .raster .now) (s at .args .from) (c .before .before .put-bit .last .1 .1 .0) (at .loop .i + 1)
-  marked = marked-on (frame _ _ (s at .pre .1)) (at .loop .inv .2) (c .before .before .put-bit .ensures) (at .loop .inv .1 .bit-is) (here at)
+  marked : Marked (s at .args .line .ends) (s at .args .window) (s at .args .raster .now) (s at .args .from) (c .before .before .put-bit .last .1 .1 .0)
+      (at .loop .fresh + c .before .before .put-bit .result) (at .loop .i + 1)
+  marked = marked-on (frame _ _ (s at .pre .1)) _ (at .loop .inv .2) (c .before .before .put-bit .ensures) (at .loop .inv .1 .bit-is) (here at)
+
+add-fresh : tie.Need-add-fresh Inv-loop μ-loop
+add-fresh c = record { fits = omega (arith, marked-few (frame _ _ (s (at c) .pre .1)) (marked c)) }
+
+add-if1 : tie.Need-add-if1 Inv-loop μ-loop
+add-if1 c = search needs
 
 same-length : tie.Need-same-length Inv-loop μ-loop
 same-length c = marked-length (frame _ _ (s (at (c .before)) .pre .1)) (marked (c .before))
@@ -92,6 +96,7 @@ walk-spec =
     enter-requires
     loop-holds
     put-bit-requires
+    add-fresh
     add-if1
     same-length
     returns

@@ -1,24 +1,31 @@
--- At turn i the bits of i rows are set, and `at` is the byte of the next one.
+-- At turn i the bits of i rows are set, `at` is the byte of the next one, and `fresh` is what the bits grew by.
 use borrow.Author.Needs.{needs}
-use Prim.Native.Nat.{ℕ, _+_, _-_, _*_, _/_, _≤_, _<_}
-use mathlib.Core.Path.{_≡_, ap, ap₂, _∙_}
+use Prim.Native.Nat.{ℕ, _+_, _-_, _*_, _/_, _%_, _≤_, _<_}
+use mathlib.Core.Path.{_≡_, refl, ap, ap₂, _∙_}
 use native.Mathlib.Omega.{arith}
 use native.Mathlib.Nat.{mul-le-mul-right}
-use lib.ListN.{length}
+use lib.Bits.{bitAnd, bitOr}
+use lib.ListN.{length, getD, set, length-set}
+use lib.Dec.{eqb}
+use mir.Val.{boolByte}
 use Rattle.raster.specs.Raster.{rowBytes}
-use Rattle.raster.specs.Bits.{withBits}
+use Rattle.raster.specs.Bits.{withBits, masks}
+use Rattle.raster.specs.Fresh.{bitCount}
 use Rattle.raster.proofs.Frames.{Frame, frame, size-in, row-within, raster-max}
-use Rattle.raster.proofs.BitLaws.{bits-length}
+use Rattle.raster.proofs.BitLaws.{bits-length, bits-bytes}
+use Rattle.raster.proofs.Fresh.{bits-most}
+use Rattle.raster.proofs.Growing.{bits-put}
 use Rattle.runs.proofs.Column.{columnBits, column-none, column-on, column-plus}
 use Rattle.runs.proofs.paint.fill_column.Statement.{statement}
 use Rattle.runs.proofs.paint.fill_column.Tie as tie
 
 abbrev Inv-loop : tie.InvT-loop
-Inv-loop column row n raster₀ bit stride at₀ i₀ raster at i =
+Inv-loop column row n raster₀ bit stride at₀ fresh₀ i₀ raster at fresh i =
     (at ≡ (row + i) * stride + column / 8) × (i ≤ n) × (raster ≡ withBits (columnBits column row stride i) raster₀)
+    × (bitCount raster ≡ bitCount raster₀ + fresh)
 
 abbrev μ-loop : tie.MeasureT-loop
-μ-loop column row n raster₀ bit stride at₀ i₀ raster at i = n - i
+μ-loop column row n raster₀ bit stride at₀ fresh₀ i₀ raster at fresh i = n - i
 
 array-read-bit : tie.Need-array-read-bit Inv-loop μ-loop
 array-read-bit c = search needs
@@ -53,7 +60,7 @@ add-at : tie.Need-add-at Inv-loop μ-loop
 add-at c = record { fits = omega (arith, start-small c) }
 
 loop-holds : tie.Need-loop-holds Inv-loop μ-loop
-loop-holds c = (omega arith, omega arith, column-none _ _ _ _ (λ i _. c .before .slice-known .given i .fits))
+loop-holds c = (omega arith, omega arith, column-none _ _ _ _ (λ i _. c .before .slice-known .given i .fits), omega arith)
 
 -- the byte of the next row
 module _ (c : tie.In-loop Inv-loop μ-loop) where
@@ -64,11 +71,46 @@ module _ (c : tie.In-loop Inv-loop μ-loop) where
       let r = row-in (c .before .before) (c .before .loop .i) (c .loop-test .taken) in
       (omega (arith, inv .0, r .0), omega (arith, r .1))
 
-slice-read-raster : tie.Need-slice-read-raster Inv-loop μ-loop
-slice-read-raster c = at-in (c .before) .0
+-- its bit is set, and `fresh` grows where it was not
+module _ (c : tie.After-slice-known2 Inv-loop μ-loop) where
+  abbrev at : tie.At-loop Inv-loop μ-loop
+  at = c .before .before
+
+  abbrev old : ℕ
+  old = getD (at .loop .raster) (at .loop .at) 0
+
+  abbrev bit : ℕ
+  bit = getD masks (at .before .before .before .args .column % 8) 0
+
+  abbrev new : ℕ
+  new = bitOr old bit
+
+  grown : bitCount (set (at .loop .raster) (at .loop .at) new) ≡ bitCount (at .loop .raster) + boolByte (eqb (bitAnd old bit) 0)
+  grown =
+      bits-put (at .loop .raster) (at .loop .at) (at-in (c .before) .0) (rw (at .loop .inv .2) (bits-bytes _ _)) masks refl (at .before .before .before .args .column % 8) (omega arith)
+
+slice-read-old : tie.Need-slice-read-old Inv-loop μ-loop
+slice-read-old c = at-in (c .before) .0
 
 slice-write-raster : tie.Need-slice-write-raster Inv-loop μ-loop
 slice-write-raster c = at-in (c .before) .0
+
+cast-fresh : tie.Need-cast-fresh Inv-loop μ-loop
+cast-fresh c = tt
+
+add-fresh : tie.Need-add-fresh Inv-loop μ-loop
+add-fresh c =
+    let t = set (at c .loop .raster) (at c .loop .at) (new c) in
+    record {
+      fits = omega (
+        arith,
+        at c .loop .inv .3,
+        grown c,
+        bits-most t,
+        length-set (at c .loop .raster) (at c .loop .at) (new c),
+        at-in (c .before) .1,
+      );
+    }
 
 add-at-2 : tie.Need-add-at-2 Inv-loop μ-loop
 add-at-2 c =
@@ -83,8 +125,12 @@ loop-less c = omega arith
 
 loop-again : tie.Need-loop-again Inv-loop μ-loop
 loop-again c =
-    let at = c .before .before in
-    (omega (arith, at .loop .inv .0), omega arith, column-on _ _ _ _ (at .loop .raster) (at .loop .i) (at .loop .at) (at .loop .inv .2) (at .loop .inv .0) (at-in (c .before) .0))
+    let loop = at c .loop in (
+      omega (arith, loop .inv .0),
+      omega arith,
+      column-on _ _ _ _ (loop .raster) (loop .i) (loop .at) (loop .inv .2) (loop .inv .0) (at-in (c .before) .0),
+      omega (arith, loop .inv .3, grown c),
+    )
 
 same-length : tie.Need-same-length Inv-loop μ-loop
 same-length c = ap length (c .before .loop .inv .2) ∙ bits-length _ _
@@ -93,11 +139,13 @@ returns : tie.Need-returns Inv-loop μ-loop
 returns c =
     let at = c .before in
     let s = at .before .before .before in
-    let done : at .loop .i ≡ s .args .n = omega (arith, at .loop .inv .1) in
-    at .loop .inv .2
-    ∙ ap₂ (λ (b n : ℕ). withBits (columnBits (s .args .column) (s .args .row) b n) (s .args .raster .now)) (at .before .row-bytes .ensures) done
-    ∙ column-plus (s .args .window) (s .args .column) (s .args .row) (s .args .n) (s .args .raster .now) (in-frame (at .before) .shape)
-    (λ i _. at .before .before .slice-known .given i .fits) (s .pre .1)
+    let done : at .loop .i ≡ s .args .n = omega (arith, at .loop .inv .1) in (
+      at .loop .inv .2
+          ∙ ap₂ (λ (b n : ℕ). withBits (columnBits (s .args .column) (s .args .row) b n) (s .args .raster .now)) (at .before .row-bytes .ensures) done
+          ∙ column-plus (s .args .window) (s .args .column) (s .args .row) (s .args .n) (s .args .raster .now) (in-frame (at .before) .shape)
+          (λ i _. at .before .before .slice-known .given i .fits) (s .pre .1),
+      at .loop .inv .3,
+    )
 
 pub fill-column-spec : {M : Type 1} → statement M
 fill-column-spec =
@@ -110,8 +158,10 @@ fill-column-spec =
     mul-at
     add-at
     loop-holds
-    slice-read-raster
+    slice-read-old
     slice-write-raster
+    cast-fresh
+    add-fresh
     add-at-2
     add-i
     loop-less

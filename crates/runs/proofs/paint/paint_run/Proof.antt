@@ -1,13 +1,19 @@
 -- What is left of the run is filled along its axis; where nothing is left, no pixel of the window is the run's.
 use borrow.Author.Needs.{needs}
-use mathlib.Core.Path.{sym, ap, _∙_}
+use Prim.Native.Nat.{_+_}
+use mathlib.Core.Path.{_≡_, sym, ap, _∙_}
+use mathlib.Core.Logic.{⊎-elim}
 use native.Mathlib.Omega.{arith}
 use lib.ListN.{length}
 use Rattle.coordinate.specs.declared.Axis.the-variants.{X, Y}
 use Rattle.refusal.proofs.Conditions.{none-met}
+use Rattle.raster.specs.Raster.{plus}
 use Rattle.raster.specs.Window.{sizeOut, placeOut}
+use Rattle.raster.specs.Fresh.{bitCount}
 use Rattle.raster.proofs.Frames.{Frame, frame}
 use Rattle.raster.proofs.Plus.{plus-length}
+use Rattle.runs.specs.Run.{inRun}
+use Rattle.runs.specs.Parts.{runOf}
 use Rattle.runs.specs.declared.paint.Piece.{Piece}
 use Rattle.runs.proofs.Bad.{Lawful, lawful}
 use Rattle.runs.proofs.Painting.{piece-in, piece-counted, run-missed, filled-row, filled-column}
@@ -36,7 +42,10 @@ returns c =
     let a = start t .args in
     let none = ap (λ (p : Piece). p .pixels) (sym (t .cut-run .ensures)) ∙ c .if1 .taken in (
       sym (c .if1 .taken) ∙ piece-counted (a .axis) (a .run) (a .window) _ (t .cut-run .ensures) (in-frame t .place) (law t),
-      run-missed (a .axis) (a .run) (a .window) (a .raster .now) (in-frame t) (law t) none (λ i _. t .before .slice-known .given i .fits),
+      (
+        run-missed (a .axis) (a .run) (a .window) (a .raster .now) (in-frame t) (law t) none (λ i _. t .before .slice-known .given i .fits),
+        omega arith,
+      ),
     )
 
 enum-told : tie.Need-enum-told
@@ -61,33 +70,36 @@ fill-column-requires c κs =
     let q = piece-in Y (a .run) (a .window) _ (rw (c .before .enum-told2 .given .1) at (t .cut-run .ensures)) (e .if1 .left) in
     (start t .pre .1, q .1, q .0)
 
+cast-t14 : tie.Need-cast-t14
+cast-t14 c = search needs
+
+-- along either axis the run is filled, and `fresh` is what the bits grew by
+module _ (c : tie.At-match-came) where
+  filled : let a = start (c .before .before) .args in
+      (c .match .raster ≡ plus (a .window) (a .raster .now) (inRun (a .axis) (runOf (a .run))))
+      × (bitCount (c .match .raster) ≡ bitCount (a .raster .now) + c .match .fresh)
+  filled =
+      let t = c .before .before in
+      let a = start t .args in
+      ⊎-elim
+      (λ x. (
+        x .6 ∙ x .3 .ensures .0 ∙ filled-row (a .axis) (a .run) (a .window) (a .raster .now) (in-frame t) (law t) _ (t .cut-run .ensures) (x .1 .given .1),
+        rw (x .6, x .7) (x .3 .ensures .1),
+      ))
+      (λ y. (
+        y .6 ∙ y .3 .ensures .0 ∙ filled-column (a .axis) (a .run) (a .window) (a .raster .now) (in-frame t) (law t) _ (t .cut-run .ensures) (y .1 .given .1),
+        rw (y .6, y .7) (y .3 .ensures .1),
+      ))
+      (c .match .came)
+
 same-length : tie.Need-same-length
-same-length c = ap length (c .before .before .fill-span .ensures) ∙ plus-length _ _ _
+same-length c = ap length (filled (c .before) .0) ∙ plus-length _ _ _
 
 returns-2 : tie.Need-returns-2
 returns-2 c =
-    let t = c .before .before .before .before .before .before .before in
+    let t = c .before .before .before in
     let a = start t .args in
-    let x = c .before .before .before .before .enum-told .given .1 in (
-      piece-counted (a .axis) (a .run) (a .window) _ (t .cut-run .ensures) (in-frame t .place) (law t),
-      rw x
-          (c .before .before .fill-span .ensures
-          ∙ filled-row (a .run) (a .window) (a .raster .now) (in-frame t) (law t) _ (rw x at (t .cut-run .ensures))),
-    )
-
-same-length-2 : tie.Need-same-length-2
-same-length-2 c = ap length (c .before .before .fill-column .ensures) ∙ plus-length _ _ _
-
-returns-3 : tie.Need-returns-3
-returns-3 c =
-    let t = c .before .before .before .before .before .before .before in
-    let a = start t .args in
-    let y = c .before .before .before .before .enum-told2 .given .1 in (
-      piece-counted (a .axis) (a .run) (a .window) _ (t .cut-run .ensures) (in-frame t .place) (law t),
-      rw y
-          (c .before .before .fill-column .ensures
-          ∙ filled-column (a .run) (a .window) (a .raster .now) (in-frame t) (law t) _ (rw y at (t .cut-run .ensures))),
-    )
+    (piece-counted (a .axis) (a .run) (a .window) _ (t .cut-run .ensures) (in-frame t .place) (law t), filled (c .before))
 
 pub paint-run-spec : {M : Type 1} → statement M
 paint-run-spec =
@@ -99,7 +111,6 @@ paint-run-spec =
     fill-span-requires
     enum-told-2
     fill-column-requires
+    cast-t14
     same-length
-    returns-2
-    same-length-2
-    returns-3)
+    returns-2)

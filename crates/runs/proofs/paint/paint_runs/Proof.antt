@@ -9,8 +9,9 @@ use Rattle.refusal.specs.Refusal.{given, firstMet}
 use Rattle.refusal.proofs.Handing.{refused-by, passed-by}
 use Rattle.raster.specs.Raster.{plus}
 use Rattle.raster.specs.Window.{frameConditions}
+use Rattle.raster.specs.declared.drawn.Marks.{Marks}
 use Rattle.raster.proofs.Plus.{plus-length}
-use Rattle.runs.specs.Painting.{firstBad, inRuns, paintCount}
+use Rattle.runs.specs.Painting.{firstBad, inRuns, paintMarks}
 use Rattle.runs.proofs.Outcome.{none-bad, frame-refused, count-refused, run-refused, all-passed}
 use Rattle.runs.proofs.paint.paint_runs.Statement.{statement}
 use Rattle.runs.proofs.paint.paint_runs.Tie as tie
@@ -26,8 +27,8 @@ module _ (s : tie.Start) where
   abbrev bad : Option ℕ
   bad = firstBad (s .args .list .now) (s .args .count)
 
-  abbrev total : ℕ
-  total = paintCount (s .args .axis) (s .args .list .now) (s .args .count) (s .args .window)
+  abbrev total : Marks
+  total = paintMarks (s .args .axis) (s .args .count) (s .args .list .now) (s .args .window) (s .args .raster .now)
 
   abbrev work : List ℕ
   work = plus (s .args .window) (s .args .raster .now) (inRuns (s .args .axis) (s .args .list .now) (s .args .count))
