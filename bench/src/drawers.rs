@@ -192,8 +192,8 @@ impl Drawers {
     pub fn rows(&self, clock: &Clock) -> Vec<Row> {
         let mut rows = Vec::new();
         for drawer in [Single, Double] {
-            rows.extend(KINDS.map(|kind| self.row(clock, kind, drawer, COUNTED_BASE, Asked::AtMost(1.1))));
-            rows.extend(KINDS.map(|kind| self.row(clock, kind, drawer, BASE, Asked::AtMost(1.25))));
+            rows.extend(KINDS.map(|kind| self.row(clock, kind, drawer, BASE, Asked::AtMost(1.1))));
+            rows.extend(KINDS.map(|kind| self.row(clock, kind, drawer, COUNTED_BASE, Asked::Shown)));
         }
         let flat = Kind::NearHorizontal;
         rows.push(self.row(clock, flat, ListPaint, Single, Asked::AtLeast(5.0)));

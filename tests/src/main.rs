@@ -1,6 +1,6 @@
-//! Compares every function of the library's C interface with a second implementation, written from the definitions of documents
-//! 01 and 02. A seed can be given as the argument. Prints a line for each part, with the first case that differs in full, and last how
-//! many cases there are and how many differ; ends in 1 where one does.
+//! Compares every function of the library's C interface with a second implementation, written from the definitions of
+//! documents 01 and 02. A seed can be given as the argument. Prints a line for each part, with the first case that differs in
+//! full, and last how many cases there are and how many differ; ends in 1 where one does.
 #![deny(unsafe_code)]
 
 mod added;
