@@ -10,7 +10,7 @@ use lib.Dec.{ltb, lit≤}
 use Rattle.coordinate.specs.declared.Axis.{Axis}
 use Rattle.refusal.specs.Refusal.{Answer, given, turnedAway, answer, unlessRefused, firstMet}
 use Rattle.refusal.specs.declared.Refusal.{Refusal}
-use Rattle.refusal.proofs.Conditions.{unmet, none-met, append-passed, append-none}
+use Rattle.refusal.proofs.Conditions.{unmet, append-passed, append-none}
 use Rattle.refusal.proofs.Handing.{handed-on, handed-back, kept, same-number}
 use Rattle.raster.specs.Window.{lengthOff, windowConditions, frameConditions}
 use Rattle.raster.specs.Drawn.{marksOf}
@@ -23,7 +23,7 @@ use Rattle.line.specs.Line.{short, axis, endsOut}
 use Rattle.line.specs.Drawing.{lineConditions, lineMarks, lineRaster}
 use Rattle.line.specs.Listing.{listConditions, lineList, listAnswer, listAfter}
 use Rattle.line.specs.declared.ends.Ends.{Ends}
-use Rattle.line.proofs.Drawn.{line-numbered}
+use Rattle.line.proofs.Drawn.{line-numbered, ends-in, frame-in}
 use Rattle.line.proofs.RunFacts.{listed-and-painted}
 use Rattle.band.specs.Calls.{afterBands, bandList, bandCalls}
 use Rattle.band.specs.declared.calls.BandCalls.{BandCalls}
@@ -36,8 +36,7 @@ module _ (e : Ends) (w : Window) (n m : ℕ) where
   -- past the first frame's conditions, the second frame's are its length's
   pub second-frame : firstMet (lineConditions e w n) ≡ 0 → firstMet (frameConditions w m) ≡ firstMet (framesConditions e w n m)
   second-frame h =
-      let p = none-met 0 (endsOut e) (frameConditions w n) h .1 in
-      append-passed (windowConditions w) ((4, lengthOff w m) ∷ []) (lit≤ tt, (lit≤ tt, tt)) (window-in w n p)
+      append-passed (windowConditions w) ((4, lengthOff w m) ∷ []) (lit≤ tt, (lit≤ tt, tt)) (window-in w n (frame-in e w n h))
       ∙ sym (append-passed (lineConditions e w n) ((4, lengthOff w m) ∷ []) (line-numbered e w n) h)
 
   module _ (h : firstMet (framesConditions e w n m) ≡ 0) where
@@ -48,7 +47,7 @@ module _ (e : Ends) (w : Window) (n m : ℕ) where
     pub lister-left : (k : ℕ) → firstMet (listConditions e k) ≡ firstMet (bothConditions e w n m k)
     lister-left k =
         let five : Bool = ltb k (3 * (short e + 1)) in
-        unmet 1 (endsOut e) ((5, five) ∷ []) (none-met 0 (endsOut e) (frameConditions w n) line-in .0)
+        unmet 1 (endsOut e) ((5, five) ∷ []) (ends-in e w n line-in)
         ∙ sym (append-passed (framesConditions e w n m) ((5, five) ∷ []) (lit≤ tt, (lit≤ tt, (lit≤ tt, (lit≤ tt, (lit≤ tt, tt))))) h)
 
 -- ---- what is answered and left

@@ -11,11 +11,10 @@ use lib.ListN.{length}
 use Rattle.counting.specs.Count.{one, count, each}
 use Rattle.counting.proofs.Counted.{one-most}
 use Rattle.refusal.specs.Refusal.{firstMet, unlessRefused, answer, given, refused, isRefused}
-use Rattle.refusal.proofs.Conditions.{append-met, append-passed, none-met}
+use Rattle.refusal.proofs.Conditions.{append-met, append-passed}
 use Rattle.raster.specs.Raster.{plus}
 use Rattle.raster.specs.Band.{inRows, rowsOf}
 use Rattle.raster.specs.Fresh.{freshCount}
-use Rattle.raster.specs.Window.{frameConditions}
 use Rattle.raster.specs.Drawn.{freshOf}
 use Rattle.raster.specs.declared.drawn.Marks.{Marks}
 use Rattle.raster.specs.declared.window.Window.{Window}
@@ -23,10 +22,10 @@ use Rattle.raster.proofs.Frames.{Shaped, frame, raster-max}
 use Rattle.raster.proofs.Over.{Bytes}
 use Rattle.raster.proofs.Plus.{plus-length, plus-bytes, plus-plus, plus-cong, plus-none}
 use Rattle.raster.proofs.Fresh.{bits-plus, fresh-none, fresh-both, fresh-cong, new-most}
-use Rattle.line.specs.Line.{onLine, endsOut}
+use Rattle.line.specs.Line.{onLine}
 use Rattle.line.specs.Drawing.{lineConditions}
 use Rattle.line.specs.declared.ends.Ends.{Ends}
-use Rattle.line.proofs.Drawn.{line-numbered}
+use Rattle.line.proofs.Drawn.{line-numbered, frame-in}
 use Rattle.band.specs.Drawing.{bandConditions, bandFresh, bandMarks, bandRaster, bandAnswer, bandAfter}
 use Rattle.band.specs.Calls.{Band, afterBands, freshCalls, meets6, inBands, bandsOf, timesIn, EachRowOnce, EveryRow, bandAt, bandList, refusedCalls, bandCalls, callOf}
 use Rattle.band.specs.declared.calls.BandCalls.{BandCalls}
@@ -189,7 +188,7 @@ module _ (e : Ends) (w : Window) (s : List ℕ) where
       go : (n : ℕ) → firstMet (lineConditions e w (length s)) ≡ n → freshCalls e w s bands ≤ 67108864
       go (suc n) h = omega (arith, none-new n h bands)
       go zero h =
-          let f = frame w (length s) (none-met 0 (endsOut e) (frameConditions w (length s)) h .1) in
+          let f = frame w (length s) (frame-in e w (length s) h) in
           let P : ℤ → ℤ → Bool = bandsOf w bands (onLine e) in
           rw (bands-fresh e w s h (f .shape) bytes bands)
           (new-most s (plus w s P) (freshCount w s P) (plus-length w s P) (raster-max w (length s) f) (bits-plus w s (f .shape) P))

@@ -7,8 +7,6 @@ use mathlib.Core.List.{List}
 use lib.IntN.{ℤ, pos, _+ℤ_}
 use lib.ListN.{length}
 use Rattle.refusal.specs.Refusal.{firstMet, given, answer, unlessRefused}
-use Rattle.refusal.proofs.Conditions.{none-met}
-use Rattle.raster.specs.Window.{frameConditions}
 use Rattle.raster.specs.Drawn.{freshOf}
 use Rattle.raster.specs.declared.window.Window.{Window}
 use Rattle.raster.proofs.Frames.{Frame, frame}
@@ -18,10 +16,11 @@ use Rattle.raster.proofs.Fresh.{fresh-cong}
 use Rattle.raster.proofs.StartPlus.{start-plus}
 use Rattle.runs.specs.Painting.{paintAnswer, paintAfter}
 use Rattle.interpolation.proofs.Facts.{half-pixel}
-use Rattle.line.specs.Line.{short, axis, distance, onLine, endsOut}
+use Rattle.line.specs.Line.{short, axis, distance, onLine}
 use Rattle.line.specs.Listing.{listConditions, lineList, listAfter}
 use Rattle.line.specs.Drawing.{lineConditions, lineFresh, lineMarks, lineRaster}
 use Rattle.line.specs.declared.ends.Ends.{Ends}
+use Rattle.line.proofs.Drawn.{frame-in}
 use Rattle.line.proofs.Pixels.{short-le, rounding}
 use Rattle.line.proofs.RunPixels.{lengths}
 use Rattle.line.proofs.RunFacts.{runs-are-line, listed-and-painted}
@@ -32,7 +31,7 @@ use Rattle.band.proofs.CallLaws.{call-answer, bands-after, bands-fresh,
 module _ (e : Ends) (w : Window) (s : List ℕ) (list : List ℤ) (bands : List Band)
     (lawful : firstMet (lineConditions e w (length s)) ≡ 0) (room : firstMet (listConditions e (length list)) ≡ 0) (bytes : Bytes s) where
   frm : Frame w (length s)
-  frm = frame w (length s) (none-met 0 (endsOut e) (frameConditions w (length s)) lawful .1)
+  frm = frame w (length s) (frame-in e w (length s) lawful)
 
   listed-so : listAfter e list ≡ lineList e list
   listed-so = ap (λ (n : ℕ). unlessRefused n (lineList e list) list) room

@@ -20,7 +20,7 @@ use Rattle.raster.proofs.Frames.{Frame, size-in, frame, frame-met}
 use Rattle.line.specs.Line.{endsOut}
 use Rattle.line.specs.Drawing.{lineConditions}
 use Rattle.line.specs.declared.ends.Ends.{Ends}
-use Rattle.line.proofs.Drawn.{line-numbered}
+use Rattle.line.proofs.Drawn.{line-numbered, ends-in, frame-in}
 use Rattle.band.specs.Drawing.{bandOut, bandConditions}
 
 -- the rows of a band that doesn't meet 6
@@ -75,13 +75,13 @@ module _ (e : Ends) (w : Window) (N f n : ℕ) (h : firstMet (bandConditions e w
   rows-passed = band-within w f n (none-met 5 (bandOut w f n) [] (parts .1) .0)
 
   pub size-passed : sizeOut w ≡ false
-  size-passed = size-in w _ (none-met 0 (endsOut e) (frameConditions w N) line-passed .1)
+  size-passed = size-in w _ (frame-in e w N line-passed)
 
   pub frame-passed : Frame w N
-  frame-passed = frame w N (none-met 0 (endsOut e) (frameConditions w N) line-passed .1)
+  frame-passed = frame w N (frame-in e w N line-passed)
 
   -- the window of the band's rows meets none
   pub band-passed : firstMet (lineConditions e (bandWindow w f n) (n * rowBytes (w .width))) ≡ 0
   band-passed =
-      unmet 1 (endsOut e) (frameConditions (bandWindow w f n) (n * rowBytes (w .width))) (none-met 0 (endsOut e) (frameConditions w N) line-passed .0)
+      unmet 1 (endsOut e) (frameConditions (bandWindow w f n) (n * rowBytes (w .width))) (ends-in e w N line-passed)
       ∙ frame-met (bandWindow w f n) (n * rowBytes (w .width)) (band-frame w N f n frame-passed rows-passed)

@@ -11,7 +11,7 @@ use lib.IntN.{ℤ}
 use lib.ListN.{length}
 use Rattle.coordinate.specs.declared.Axis.{Axis}
 use Rattle.refusal.specs.Refusal.{firstMet, answer, unlessRefused}
-use Rattle.refusal.proofs.Conditions.{none-met, append-none}
+use Rattle.refusal.proofs.Conditions.{append-none}
 use Rattle.raster.specs.Raster.{plus}
 use Rattle.raster.specs.Window.{frameConditions}
 use Rattle.raster.specs.Fresh.{markedCount, freshCount}
@@ -21,9 +21,10 @@ use Rattle.raster.proofs.Frames.{Shaped, frame, frame-numbered}
 use Rattle.raster.proofs.Plus.{plus-length}
 use Rattle.raster.proofs.Fresh.{marked-plus, fresh-both, fresh-cong}
 use Rattle.runs.specs.Painting.{firstBad, inRuns, paintMarks, paintConditions, painted, unlessBad}
-use Rattle.line.specs.Line.{onLine, endsOut}
+use Rattle.line.specs.Line.{onLine}
 use Rattle.line.specs.Drawing.{lineConditions, lineFresh, lineMarks, lineRaster}
 use Rattle.line.specs.declared.ends.Ends.{Ends}
+use Rattle.line.proofs.Drawn.{frame-in}
 use Rattle.band.specs.Drawing.{bandConditions, bandFresh, bandMarks, bandRaster}
 use Rattle.band.specs.NewPixels.{NewPixels}
 use Rattle.band.proofs.Limits.{frame-passed}
@@ -43,7 +44,7 @@ module _ (e : Ends) (w : Window) (s : List ℕ) where
   number = firstMet (lineConditions e w (length s))
 
   line-shaped : number ≡ 0 → Shaped w (length s)
-  line-shaped h = shaped w s (none-met 0 (endsOut e) (frameConditions w (length s)) h .1)
+  line-shaped h = shaped w s (frame-in e w (length s) h)
 
   steps : (n : ℕ) → number ≡ n → Adds w s (unlessRefused n (lineRaster e w s) s) (answer n (lineMarks e w s))
   unfolding lineRaster lineFresh

@@ -12,12 +12,13 @@ use Rattle.raster.specs.Drawn.{marks}
 use Rattle.raster.specs.declared.drawn.Marks.{Marks}
 use Rattle.raster.specs.declared.window.Window.{Window}
 use Rattle.raster.proofs.Band.{plus-band, fresh-band}
+use Rattle.raster.proofs.Frames.{Frame}
 use Rattle.raster.proofs.Over.{Bytes}
 use Rattle.line.specs.Line.{onLine}
 use Rattle.line.specs.Drawing.{lineConditions, lineFresh, lineMarks, lineRaster}
 use Rattle.line.specs.declared.ends.Ends.{Ends}
 use Rattle.band.specs.Drawing.{bandConditions, bandCount, bandFresh, bandMarks, bandRaster}
-use Rattle.band.proofs.Limits.{rows-passed, frame-passed, band-bytes, band-passed}
+use Rattle.band.proofs.Limits.{Within, rows-passed, frame-passed, band-bytes, band-passed}
 
 module _ (e : Ends) (w : Window) (s : List ℕ) (f n : ℕ) (h : firstMet (bandConditions e w (length s) f n) ≡ 0) where
   abbrev b : ℕ
@@ -26,9 +27,15 @@ module _ (e : Ends) (w : Window) (s : List ℕ) (f n : ℕ) (h : firstMet (bandC
   abbrev part : List ℕ
   part = take (n * b) (drop (f * b) s)
 
+  frm : Frame w (length s)
+  frm = frame-passed e w (length s) f n h
+
+  rows : Within w f n
+  rows = rows-passed e w (length s) f n h
+
   part-length : length part ≡ n * b
   part-length =
-      let fits = band-bytes w (length s) f n (frame-passed e w (length s) f n h) (rows-passed e w (length s) f n h) in
+      let fits = band-bytes w (length s) f n frm rows in
       length-take-le (n * b) (drop (f * b) s) (omega (arith, fits, length-drop (f * b) s))
 
   part-passed : firstMet (lineConditions e (bandWindow w f n) (length part)) ≡ 0
@@ -38,16 +45,12 @@ module _ (e : Ends) (w : Window) (s : List ℕ) (f n : ℕ) (h : firstMet (bandC
   put-back : Bytes s → take (f * b) s ++ (lineRaster e (bandWindow w f n) part ++ drop (n * b) (drop (f * b) s)) ≡ bandRaster e w f n s
   unfolding lineRaster bandRaster
   put-back bytes =
-      let frm = frame-passed e w (length s) f n h in
-      let rows = rows-passed e w (length s) f n h in
       plus-band w s (onLine e) f n (w .height - (f + n)) (frm .shape) bytes (omega (arith, rows .last))
 
   -- its new pixels are the band's
   part-fresh : Bytes s → lineFresh e (bandWindow w f n) part ≡ bandFresh e w s f n
   unfolding lineFresh bandFresh
   part-fresh bytes =
-      let frm = frame-passed e w (length s) f n h in
-      let rows = rows-passed e w (length s) f n h in
       fresh-band w s (onLine e) f n (w .height - (f + n)) (frm .shape) bytes (omega (arith, rows .last))
 
   -- what the drawer answers and leaves there, with the window and the part's numbers as the code has them

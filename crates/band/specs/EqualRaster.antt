@@ -32,10 +32,12 @@ pub record EqualRaster (e : Ends) (w : Window) (start : List ℕ) (list : List �
   pub lister-answers : listAnswer e list ≡ given (axis e, short e + 1)
   pub listed-is : listed ≡ runList (runs e) ++ drop (3 * (short e + 1)) list
   pub runs-are-line : RunsAreLine e
-  -- the painter, given that list, axis and run count, doesn't refuse: its raster is the start plus exactly the line's pixels
+  -- the painter, given that list, axis and run count, doesn't refuse: its counts are those of the line's pixels, and its raster
+  -- is the start plus exactly these
   pub painter-answers : paintAnswer (axis e) (short e + 1) listed w start ≡ given (lineMarks e w start)
   pub painted-is : painted ≡ plus w start (onLine e)
-  -- after any calls, refused ones among them, a call is refused exactly if its band meets 6
+  -- after any calls, refused ones among them, a call is refused exactly if its band meets 6, and else answers the counts of the
+  -- line's pixels in its rows
   pub band-answers : (before : List Band) (b : Band)
       → bandAnswer e w (afterBands e w start before) (b .first) (b .rows)
       ≡ cond (meets6 w b) (refused 6) (given (bandMarks e w (afterBands e w start before) (b .first) (b .rows)))

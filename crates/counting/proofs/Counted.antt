@@ -2,12 +2,14 @@
 use Prim.Native.Nat.{ℕ, zero, suc, _+_, _-_, _≤_, _<_, min}
 use mathlib.Core.Path.{_≡_, refl, sym, ap, ap₂, _∙_}
 use mathlib.Core.Logic.{_↔_}
-use mathlib.Core.Bool.{Bool, true, false}
+use mathlib.Core.Bool.{Bool, true, false, _&&_, and-true, and-false}
 use native.Mathlib.Omega.{arith}
 use native.Mathlib.Decide.{decLe, decLt}
 use native.Mathlib.Nat.{add-zero, add-suc, add-assoc}
+use lib.Dec.{eqb}
+use borrow.Author.Tests.{eqb-true, eqb-false}
 use Rattle.counting.specs.Count.{one, count}
-use Rattle.counting.proofs.Boolean.{clash}
+use Rattle.counting.proofs.Boolean.{clash, never}
 
 pub one-most : (t : Bool) → one t ≤ 1
 one-most true = omega arith
@@ -22,6 +24,29 @@ pub count-most : (n : ℕ) (f : ℕ → Bool) → count n f ≤ n
 unfolding count
 count-most zero f = omega arith
 count-most (suc n) f = omega (arith, count-most n f, one-most (f n))
+
+pub count-none : (n : ℕ) (f : ℕ → Bool) → ((i : ℕ) → i < n → f i ≡ false) → count n f ≡ 0
+unfolding count
+count-none zero f h = refl
+count-none (suc n) f h = rw (count-none n f (λ i l. h i (omega arith)), h n (omega arith))
+
+-- at one number alone
+pub count-at : (n : ℕ) (f : ℕ → Bool) (k : ℕ) → k < n → count n (λ i. f i && eqb i k) ≡ one (f k)
+unfolding count
+count-at zero f k l = absurd (omega arith)
+count-at (suc n) f k l = go (eqb n k) refl (count-at n f k)
+  where
+    go : (t : Bool) → eqb n k ≡ t → (k < n → count n (λ i. f i && eqb i k) ≡ one (f k))
+        → count n (λ i. f i && eqb i k) + one (f n && eqb n k) ≡ one (f k)
+    go true e ih =
+        let q = eqb-true n k e in
+        let none : count n (λ i. f i && eqb i k) ≡ 0 =
+        count-none n _ (λ i li. ap (λ (t : Bool). f i && t) (never (eqb i k) (λ t. omega (arith, eqb-true i k t))) ∙ and-false (f i)) in
+        let last : one (f n && eqb n k) ≡ one (f k) = ap one (ap (λ (t : Bool). f n && t) e ∙ and-true (f n) ∙ ap f q) in
+        omega arith
+    go false e ih =
+        let last : one (f n && eqb n k) ≡ 0 = ap one (ap (λ (t : Bool). f n && t) e ∙ and-false (f n)) in
+        omega (arith, ih (omega (arith, eqb-false n k e)))
 
 -- the numbers below a, and the b numbers from a on
 pub count-join : (a b : ℕ) (f : ℕ → Bool) → count a f + count b (λ j. f (a + j)) ≡ count (a + b) f

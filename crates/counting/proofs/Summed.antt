@@ -2,14 +2,15 @@
 -- each, in either order.
 use Prim.Native.Nat.{ℕ, zero, suc, _+_, _-_, _*_, _≤_, _<_}
 use mathlib.Core.Path.{_≡_, refl, sym, ap, ap₂, _∙_}
-use mathlib.Core.Bool.{Bool, false, _&&_}
+use mathlib.Core.Bool.{Bool, _&&_}
 use native.Mathlib.Omega.{arith}
+use native.Mathlib.Decide.{decLt}
 use native.Mathlib.Nat.{add-zero, add-suc, add-assoc, zero-mul}
 use native.Mathlib.Numerals.{add-one}
 use lib.Dec.{ltb}
 use borrow.Author.Tests.{lt-ltb, le-ltb}
 use Rattle.counting.specs.Count.{one, count, sum}
-use Rattle.counting.proofs.Counted.{count-cong, count-join}
+use Rattle.counting.proofs.Counted.{count-cong, count-join, count-none}
 
 pub sum-cong : (n : ℕ) (f g : ℕ → ℕ) → ((k : ℕ) → k < n → f k ≡ g k) → sum n f ≡ sum n g
 unfolding sum
@@ -72,15 +73,22 @@ sum-rows (suc h) b f =
 pub count-eights : (b : ℕ) (f : ℕ → Bool) → sum b (λ q. count 8 (λ k. f (8 * q + k))) ≡ count (8 * b) f
 count-eights b f = count-sum b (λ q. 8 * q) (λ q. 8) f refl (λ k l. omega arith)
 
-pub count-none : (n : ℕ) (f : ℕ → Bool) → ((i : ℕ) → i < n → f i ≡ false) → count n f ≡ 0
-unfolding count
-count-none zero f h = refl
-count-none (suc n) f h = rw (count-none n f (λ i l. h i (omega arith)), h n (omega arith))
-
 pub sum-none : (n : ℕ) (f : ℕ → ℕ) → ((i : ℕ) → i < n → f i ≡ 0) → sum n f ≡ 0
 unfolding sum
 sum-none zero f h = refl
 sum-none (suc n) f h = rw (sum-none n f (λ i l. h i (omega arith)), h n (omega arith))
+
+-- one term alone
+pub sum-at : (n : ℕ) (f : ℕ → ℕ) (k : ℕ) → k < n → ((i : ℕ) → i < n → (i ≡ k → ⊥) → f i ≡ 0) → sum n f ≡ f k
+unfolding sum
+sum-at zero f k l h = absurd (omega arith)
+sum-at (suc n) f k l h =
+    elim (decLt k n) [
+      | yes p ↦ omega (arith, sum-at n f k p (λ i li ne. h i (omega arith) ne), h n (omega arith) (λ q. omega arith))
+      | no p ↦
+          let same : n ≡ k = omega arith in
+          omega (arith, sum-none n f (λ i li. h i (omega arith) (λ q. omega arith)), ap f same)
+    ]
 
 -- of m numbers those below n
 pub count-below : (n m : ℕ) (f : ℕ → Bool) → n ≤ m → count m (λ i. ltb i n && f i) ≡ count n f

@@ -30,6 +30,14 @@ use Rattle.line.proofs.Whole.{count-visible, raster-visible, raster-uns
 pub line-numbered : (e : Ends) (w : Window) (n : ℕ) → Numbered (lineConditions e w n)
 line-numbered e w n = (lit≤ tt, frame-numbered w n)
 
+-- where none is met, the ends and the frame meet none
+module _ (e : Ends) (w : Window) (n : ℕ) (z : firstMet (lineConditions e w n) ≡ 0) where
+  pub ends-in : endsOut e ≡ false
+  ends-in = none-met 0 (endsOut e) (frameConditions w n) z .0
+
+  pub frame-in : firstMet (frameConditions w n) ≡ 0
+  frame-in = none-met 0 (endsOut e) (frameConditions w n) z .1
+
 module _ (e : Ends) (w : Window) (s : List ℕ) where
   abbrev pub number : ℕ
   number = firstMet (lineConditions e w (length s))
@@ -41,17 +49,11 @@ module _ (e : Ends) (w : Window) (s : List ℕ) where
   pub drawn-refused : (r : Refusal) → _≡_ {A = Answer Unit} (turnedAway r) (answer number tt) → Drawn (turnedAway r) s
   drawn-refused r q = (handed-on r number (lineMarks e w s) q, kept r number (lineRaster e w s) s q)
 
-  pub ends-in : number ≡ 0 → endsOut e ≡ false
-  ends-in z = none-met 0 (endsOut e) (frameConditions w (length s)) z .0
-
-  pub frame-in : number ≡ 0 → firstMet (frameConditions w (length s)) ≡ 0
-  frame-in z = none-met 0 (endsOut e) (frameConditions w (length s)) z .1
-
   module _ (z : number ≡ 0) (v : Steps) (vis : Visible e w v) where
     -- the bits grow by the line's new pixels
     new-is : (t : List ℕ) (m : ℕ) → t ≡ lineRaster e w s → bitCount t ≡ bitCount s + m → m ≡ lineFresh e w s
     unfolding lineRaster lineFresh
-    new-is t m q b = fresh-is w s (frame w _ (frame-in z) .shape) (onLine e) t m q b
+    new-is t m q b = fresh-is w s (frame w _ (frame-in e w _ z) .shape) (onLine e) t m q b
 
     done : (n m : ℕ) (t : List ℕ) → n ≡ lineCount e w → t ≡ lineRaster e w s → bitCount t ≡ bitCount s + m → Drawn (given (marks n m)) t
     done n m t p q b = (
@@ -62,8 +64,8 @@ module _ (e : Ends) (w : Window) (s : List ℕ) where
     pub drawn-unseen : Bytes s → v .end ≤ v .from → Drawn (given (marks 0 0)) s
     drawn-unseen bytes h =
         let none : 0 ≡ v .end - v .from = omega arith in
-        done 0 0 s (none ∙ sym (count-visible e w v vis)) (raster-unseen e w v vis s (frame w _ (frame-in z)) bytes h) (omega arith)
+        done 0 0 s (none ∙ sym (count-visible e w v vis)) (raster-unseen e w v vis s (frame w _ (frame-in e w _ z)) bytes h) (omega arith)
 
     pub drawn-walked : (t : List ℕ) (m : ℕ) → Walked e w s (v .from) (v .end) t m → Drawn (given (marks (v .end - v .from) m)) t
     drawn-walked t m q =
-        done (v .end - v .from) m t (sym (count-visible e w v vis)) (q .0 ∙ raster-visible e w v vis s (frame w _ (frame-in z))) (q .1)
+        done (v .end - v .from) m t (sym (count-visible e w v vis)) (q .0 ∙ raster-visible e w v vis s (frame w _ (frame-in e w _ z))) (q .1)

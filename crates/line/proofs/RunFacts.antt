@@ -20,9 +20,7 @@ use Rattle.counting.proofs.Summed.{sum-cong, count-sum}
 use Rattle.coordinate.specs.Coordinate.{outOfRange}
 use Rattle.coordinate.specs.declared.Pixel.{Pixel}
 use Rattle.refusal.specs.Refusal.{given, firstMet}
-use Rattle.refusal.proofs.Conditions.{none-met}
 use Rattle.raster.specs.Raster.{plus, inWindow}
-use Rattle.raster.specs.Window.{frameConditions}
 use Rattle.raster.specs.Bits.{point}
 use Rattle.raster.specs.Fresh.{freshCount}
 use Rattle.raster.specs.Drawn.{marks}
@@ -36,6 +34,7 @@ use Rattle.line.specs.Listing.{lineList}
 use Rattle.line.specs.Drawing.{lineCount, lineFresh, lineRaster, lineConditions}
 use Rattle.line.specs.RunFacts.{falls, stepOf, Stepped, RunsAreLine, RunsDrawLine, listThen, ReadBack, NoneBad, Painted, ListedAndPainted}
 use Rattle.line.specs.declared.ends.Ends.{Ends}
+use Rattle.line.proofs.Drawn.{ends-in, frame-in}
 use Rattle.line.proofs.Pixels.{distance-max}
 use Rattle.line.proofs.RunPixels.{count-turned, lengths, stepped, place, step-once, run-long-in, run-across-in}
 
@@ -201,6 +200,9 @@ module _ (e : Ends) (rest : List ℤ) where
   unfolding paintCount
   painted-count w = sum-cong (short e + 1) _ _ (λ k l. ap (λ (r : Run). runCount (axis e) r w) (run-back k l)) ∙ runs-count e w
 
+  painted-pixels : inRuns (axis e) (listThen e rest) (short e + 1) ≡ onLine e
+  painted-pixels = fun-ext (λ x. fun-ext (λ y. painted-marks x y))
+
   -- painting the line's run list is drawing the line
   pub paints-line : Painted e rest
   unfolding lineRaster lineFresh
@@ -209,8 +211,8 @@ module _ (e : Ends) (rest : List ℤ) where
         allowed = λ p. none-bad p .first-bad;
         marks = painted-marks;
         counts = painted-count;
-        raster = λ w s. ap (plus w s) (fun-ext (λ x. fun-ext (λ y. painted-marks x y)));
-        fresh = λ w s. ap (freshCount w s) (fun-ext (λ x. fun-ext (λ y. painted-marks x y)));
+        raster = λ w s. ap (plus w s) painted-pixels;
+        fresh = λ w s. ap (freshCount w s) painted-pixels;
       }
 
 -- ---- lister and painter
@@ -219,24 +221,18 @@ module _ (e : Ends) (list : List ℤ) (w : Window) (s : List ℕ) (h : firstMet 
   rest : List ℤ
   rest = drop (3 * (short e + 1)) list
 
-  ends-in : endsOut e ≡ false
-  ends-in = none-met 0 (endsOut e) (frameConditions w (length s)) h .0
-
-  frame-met : firstMet (frameConditions w (length s)) ≡ 0
-  frame-met = none-met 0 (endsOut e) (frameConditions w (length s)) h .1
-
   long-enough : 3 * (short e + 1) ≤ length (lineList e list)
   unfolding lineList rest
   long-enough = omega (arith, read-back e rest .length-is, length-append (runList (runs e)) rest)
 
   paint-met : firstMet (paintConditions w (length s) (lineList e list) (short e + 1)) ≡ 0
-  paint-met = all-passed w (length s) (lineList e list) (short e + 1) frame-met long-enough
+  paint-met = all-passed w (length s) (lineList e list) (short e + 1) (frame-in e w _ h) long-enough
 
   -- painting what the lister left is drawing the line, in the painter's whole answer
   pub listed-and-painted : ListedAndPainted e list w s
   unfolding lineList rest
   listed-and-painted =
       record {
-        answer-is = rw (paint-met, none-bad e rest ends-in .first-bad) (ap given (ap₂ marks (paints-line e rest .counts w) (paints-line e rest .fresh w s)));
-        raster-is = rw (paint-met, none-bad e rest ends-in .first-bad) (paints-line e rest .raster w s);
+        answer-is = rw (paint-met, none-bad e rest (ends-in e w _ h) .first-bad) (ap given (ap₂ marks (paints-line e rest .counts w) (paints-line e rest .fresh w s)));
+        raster-is = rw (paint-met, none-bad e rest (ends-in e w _ h) .first-bad) (paints-line e rest .raster w s);
       }

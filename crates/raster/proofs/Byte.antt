@@ -87,7 +87,7 @@ bit-byte f =
     (odd-is (byte f / worth 6 % 2) (f 6) (omega arith))
     (odd-is (byte f / worth 7 % 2) (f 7) (omega arith))
 
--- one of two tests holds
+-- exactly one of two tests holds
 abbrev pub differ : Bool → Bool → Bool
 differ a b = cond a (not b) b
 

@@ -3,12 +3,13 @@ use crate::window::Window;
 ghost use mathlib.Core.Path.{_≡_};
 ghost use Prim.Native.Nat.{_+_, _/_, _<_};
 ghost use lib.IntN.{pos, _+ℤ_};
-ghost use mathlib.Core.Bool.{false};
+ghost use mathlib.Core.Bool.{false, not};
 ghost use lib.ListN.{length};
 ghost use lib.Dec.{eqb};
 ghost use Rattle.refusal.specs.Refusal.{firstMet};
-ghost use Rattle.raster.specs.Raster.{plus};
-ghost use Rattle.raster.specs.Fresh.{freshCount, bitCount};
+ghost use Rattle.counting.specs.Count.{one};
+ghost use Rattle.raster.specs.Raster.{plus, marked};
+ghost use Rattle.raster.specs.Fresh.{bitCount};
 ghost use Rattle.raster.specs.Window.{sizeOut, frameConditions};
 ghost use Rattle.raster.specs.Bits.{withBits, bitOf, masks, point};
 
@@ -35,12 +36,12 @@ pub fn bit_of(window: Window, column: u32, row: u32) -> usize
     row as usize * (8 * window.row_bytes()) + column as usize
 }
 
-// Marks the window's pixel in column `column` and row `row`, counted from 0 at left and top, and answers how many pixels that
-// adds: 1 where it was unmarked.
+// Marks the window's pixel in column `column` and row `row`, counted from 0 at left and top, and answers whether it was unmarked:
+// 1 where it was, else 0.
 pub fn mark(window: Window, column: u32, row: u32, raster: &mut [u8]) -> u32
     requires { ⌜ (firstMet (frameConditions window (length (now raster))) ≡ 0) × (column < window .width) × (row < window .height) ⌝ }
     ensures { λ _. ⌜ now (raster .exit) ≡ plus window (now (raster .entry)) (point (window .left +ℤ pos column) (window .top +ℤ pos row)) ⌝ }
-    ensures { λ r. ⌜ r ≡ freshCount window (now (raster .entry)) (point (window .left +ℤ pos column) (window .top +ℤ pos row)) ⌝ }
+    ensures { λ r. ⌜ r ≡ one (not (marked window (now (raster .entry)) column row)) ⌝ }
 {
     let mask = MASK;
     let p = bit_of(window, column, row);

@@ -3,7 +3,7 @@ use Prim.Native.Nat.{ℕ, zero, suc}
 use mathlib.Core.Bool.{Bool, true, cond}
 use mathlib.Core.List.{List, _++_}
 use mathlib.Core.Path.{_≡_, refl, sym, ap, _∙_}
-use mathlib.Core.Logic.{_⊎_, inl, inr}
+use mathlib.Core.Logic.{_⊎_, inl, inr, ⊎-elim}
 use native.Mathlib.Omega.{arith}
 use Rattle.refusal.specs.Refusal.{Answer, given, refused, refusedAt, turnedAway, answer, unlessRefused, numberOf, number, place, isRefused, checked, firstMet}
 use Rattle.refusal.specs.declared.Refusal.{Refusal}
@@ -37,10 +37,8 @@ module _ {B : Type 0} (b : B) where
   instead-answer (suc n) a = refl
 
 -- a refusal's answer is its number, with the place where it has one
-abbrev pub Turned : Type 0 → Refusal → Type 0
-Turned A r = ((turnedAway {A = A} r ≡ refused (number r)) × (place r ≡ 0)) ⊎ (turnedAway {A = A} r ≡ refusedAt (number r) (place r))
-
-pub turned-is : (A : Type 0) (r : Refusal) → Turned A r
+turned-is : (A : Type 0) (r : Refusal)
+    → ((turnedAway {A = A} r ≡ refused (number r)) × (place r ≡ 0)) ⊎ (turnedAway {A = A} r ≡ refusedAt (number r) (place r))
 turned-is A Ends = inl (refl, refl)
 turned-is A Size = inl (refl, refl)
 turned-is A Place = inl (refl, refl)
@@ -51,20 +49,17 @@ turned-is A RunCount = inl (refl, refl)
 turned-is A (Run at) = inr refl
 turned-is A Input = inl (refl, refl)
 
+-- so what is said of both forms is said of every refusal's answer
+pub turned-by : {A B : Type 0} (f : Answer A → B) (b : B) (r : Refusal) → (place r ≡ 0 → f (refused (number r)) ≡ b)
+    → f (refusedAt (number r) (place r)) ≡ b → f (turnedAway r) ≡ b
+turned-by {A} f b r p q = ⊎-elim (λ x. ap f (x .0) ∙ p (x .1)) (λ x. ap f x ∙ q) (turned-is A r)
+
 module _ (A : Type 0) (r : Refusal) where
   pub number-is : numberOf (turnedAway {A = A} r) ≡ number r
-  number-is = go (turned-is A r)
-    where
-      go : Turned A r → numberOf (turnedAway {A = A} r) ≡ number r
-      go (inl q) = ap numberOf (q .0)
-      go (inr q) = ap numberOf q
+  number-is = turned-by numberOf (number r) r (λ _. refl) refl
 
-  pub turned-refused : isRefused (turnedAway {A = A} r) ≡ true
-  turned-refused = go (turned-is A r)
-    where
-      go : Turned A r → isRefused (turnedAway {A = A} r) ≡ true
-      go (inl q) = ap isRefused (q .0)
-      go (inr q) = ap isRefused q
+  turned-refused : isRefused (turnedAway {A = A} r) ≡ true
+  turned-refused = turned-by isRefused true r (λ _. refl) refl
 
 -- so it is never a given one
 not-given : (r : Refusal) → turnedAway {A = Unit} r ≡ given tt → ⊥

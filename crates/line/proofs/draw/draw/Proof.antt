@@ -43,12 +43,12 @@ module _ (c : tie.After-enum-told) where
       passed-by (after .check-line .result) (number (entry .args .ends) (entry .args .window) (entry .args .raster .now)) (after .check-line .ensures) (c .enum-told .given .1)
 
 line-of-requires : tie.Need-line-of-requires
-line-of-requires c κs = ends-in (entry c .args .ends) (entry c .args .window) (entry c .args .raster .now) (within c)
+line-of-requires c κs = ends-in (entry c .args .ends) (entry c .args .window) _ (within c)
 
 visible-steps-requires : tie.Need-visible-steps-requires
 visible-steps-requires c κs =
     let s = entry (c .before) in
-    (c .line-of .ensures .1, window-in (s .args .window) _ (frame-in (s .args .ends) (s .args .window) (s .args .raster .now) (within (c .before))))
+    (c .line-of .ensures .1, window-in (s .args .window) _ (frame-in (s .args .ends) (s .args .window) _ (within (c .before))))
 
 -- the visible steps are those of the ends
 module _ (c : tie.After-visible-steps) where
@@ -66,7 +66,7 @@ walk-by-requires c κs =
     let after = c .before .before in
     let s = entry (after .before .before) in (
       after .before .line-of .ensures .1,
-      frame-in (s .args .ends) (s .args .window) (s .args .raster .now) (within (after .before .before)),
+      frame-in (s .args .ends) (s .args .window) _ (within (after .before .before)),
       shown-visible _ _ _ (after .visible-steps .ensures) (c .before .if1 .left),
     )
 
