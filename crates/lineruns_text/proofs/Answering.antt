@@ -19,9 +19,8 @@ use Rattle.coordinate.specs.Coordinate.{along}
 use Rattle.coordinate.specs.declared.Axis.{Axis}
 use Rattle.refusal.specs.Refusal.{answer, unlessRefused, numberOf, number, firstMet}
 use Rattle.refusal.specs.declared.Refusal.{Refusal}
-use Rattle.refusal.specs.declared.Refusal.the-variants.{Ends as BadEnds, Size, Place, RasterLength, ListLength, Rows, RunCount, Run as BadRun, Input}
 use Rattle.refusal.proofs.Conditions.{none-met}
-use Rattle.refusal.proofs.Handing.{number-is, number-answer}
+use Rattle.refusal.proofs.Handing.{turned, number-is, number-answer}
 use Rattle.runs.specs.Painting.{runAt, runBad}
 use Rattle.line.specs.Line.{short, axis, endsOut}
 use Rattle.line.specs.Runs.{run, runs}
@@ -35,9 +34,9 @@ use Rattle.line.proofs.ListAnswer.{listing-met, listing-axis, listing-runs}
 use Rattle.line.proofs.RunFacts.{read-back, none-bad}
 use Rattle.lineruns_text.specs.Writing.{axisText, axisLine, refusedLine, runLines, printConditions, told, answerTo, printed}
 use Rattle.lineruns_text.specs.Reading.{lineOf}
-use Rattle.lineruns_text.specs.Written.{written, Wrote}
+use Rattle.buffer.specs.Written.{written, Wrote}
 use Rattle.lineruns_text.proofs.Lines.{axis-line-length, refused-line-length}
-use Rattle.lineruns_text.proofs.Placing.{length-written, wrote-both}
+use Rattle.buffer.proofs.Placing.{length-written, wrote-both}
 use Rattle.lineruns_text.proofs.RunLines.{lines-none, length-more}
 
 -- ---- room
@@ -65,19 +64,6 @@ module _ (letter n : ℕ) (few : n ≤ 5000) (entry : List ℕ) (room : 110000 �
       let b = length-append (axisText letter n) (runLines (each n (runAt list))) in
       wrote-both (axisText letter n) (runLines (each n (runAt list))) (omega arith) w v
 
--- ---- what an answer says of the number that it goes by
-
-pub number-small : (r : Refusal) → (1 ≤ number r) × (number r < 10)
-number-small BadEnds = (omega arith, omega arith)
-number-small Size = (omega arith, omega arith)
-number-small Place = (omega arith, omega arith)
-number-small RasterLength = (omega arith, omega arith)
-number-small ListLength = (omega arith, omega arith)
-number-small Rows = (omega arith, omega arith)
-number-small RunCount = (omega arith, omega arith)
-number-small (BadRun place) = (omega arith, omega arith)
-number-small Input = (omega arith, omega arith)
-
 -- ---- what the lister says of the printed text
 
 room-same : (n : ℕ) → ltb 15000 (3 * n) ≡ ltb 5000 n
@@ -87,7 +73,7 @@ room-same n =
     (λ t. let l = ltb-true 5000 n t in lt-ltb 15000 (3 * n) (omega arith))
 
 told-number : (e : Ends) (n : ℕ) (r : Refusal) → number r ≡ n → told n e ≡ refusedLine (number r)
-told-number e zero r q = absurd (omega (arith, number-small r .0))
+told-number e zero r q = absurd (omega (arith, turned r .some))
 told-number e (suc n) r q = ap refusedLine (sym q)
 
 module _ (e : Ends) (space list : List ℤ) (size : length space ≡ 15000) (r : Listed)

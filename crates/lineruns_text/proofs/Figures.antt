@@ -5,8 +5,8 @@ use mathlib.Core.List.{List}
 use native.Mathlib.Omega.{arith}
 use lib.ListN.{length, set}
 use Rattle.lineruns_text.specs.Writing.{decimal}
-use Rattle.lineruns_text.specs.Written.{written}
-use Rattle.lineruns_text.proofs.Placing.{written-byte, written-last}
+use Rattle.buffer.specs.Written.{written}
+use Rattle.buffer.proofs.Placing.{written-byte, written-last}
 use Rattle.lineruns_text.proofs.Decimals.{decimal-small, decimal-large, digit-count}
 
 module _ (rest at i : ℕ) (output : List ℕ) where

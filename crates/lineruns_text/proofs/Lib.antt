@@ -2,7 +2,6 @@ pub mod Numbers
 pub mod Splitting
 pub mod Fours
 pub mod Steps
-pub mod Placing
 pub mod Decimals
 pub mod Figures
 pub mod Signs

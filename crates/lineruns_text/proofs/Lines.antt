@@ -61,5 +61,5 @@ pub axis-line-length : (letter n : ℕ) → n < 100000 → length (axisText lett
 axis-line-length letter n h =
     let z = decimal-length 4 n h in rw (axis-line letter n) (simp length-append (omega arith))
 
-pub refused-line-length : (n : ℕ) → n < 10 → length (refusedLine n) ≤ 10
-refused-line-length n h = let z = decimal-length 0 n h in rw (refused-line n) (simp length-append (omega arith))
+pub refused-line-length : (n : ℕ) → n < 100 → length (refusedLine n) ≤ 11
+refused-line-length n h = let z = decimal-length 1 n h in rw (refused-line n) (simp length-append (omega arith))

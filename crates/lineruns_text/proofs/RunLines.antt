@@ -21,9 +21,9 @@ use Rattle.runs.specs.Painting.{storedAcross, storedLowest, storedPixels, natur
 use Rattle.runs.specs.Parts.{storedAt, badRun}
 use Rattle.runs.proofs.Bad.{Lawful, lawful}
 use Rattle.lineruns_text.specs.Writing.{runLine, runLines}
-use Rattle.lineruns_text.specs.Written.{Wrote}
+use Rattle.buffer.specs.Written.{Wrote}
 use Rattle.lineruns_text.proofs.Lines.{run-line-length}
-use Rattle.lineruns_text.proofs.Placing.{room-after, wrote-both, wrote-nothing}
+use Rattle.buffer.proofs.Placing.{room-after, wrote-both, wrote-nothing}
 
 small : (z : ℤ) → outOfRange z ≡ false → natAbs z < 100000
 small (pos n) e = let l = in-range (pos n) _ _ (diff-parts (pos n)) e in omega arith

@@ -19,7 +19,8 @@ ghost use Rattle.coordinate.specs.Coordinate.{along};
 ghost use Rattle.refusal.specs.Refusal.{firstMet};
 ghost use Rattle.runs.specs.Painting.{runAt, runBad};
 ghost use Rattle.lineruns_text.specs.Writing.{axisText, runLines, printConditions, told};
-ghost use Rattle.lineruns_text.specs.Written.{Wrote, printLength, printAfter};
+ghost use Rattle.buffer.specs.Written.{Wrote};
+ghost use Rattle.lineruns_text.specs.Written.{printLength, printAfter};
 
 // The axis's letter.
 fn letter(axis: Axis) -> u8

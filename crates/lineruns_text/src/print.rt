@@ -7,7 +7,7 @@ ghost use lib.ListN.{length};
 ghost use Rattle.counting.specs.Count.{each};
 ghost use Rattle.runs.specs.Painting.{runAt, runBad};
 ghost use Rattle.lineruns_text.specs.Writing.{runLines};
-ghost use Rattle.lineruns_text.specs.Written.{Wrote};
+ghost use Rattle.buffer.specs.Written.{Wrote};
 
 // Writes the lines of a list's first runs. A run within the limits makes a line of at most 20 bytes.
 pub fn write_runs(list: &[i32], runs: usize, at: usize, output: &mut [u8]) -> usize

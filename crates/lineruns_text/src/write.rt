@@ -1,33 +1,13 @@
 // Writing numbers and lines into a buffer, from a place on. Each writer answers the place after its text.
+use buffer::write_byte;
+use buffer::write_bytes;
 ghost use mathlib.Core.Path.{_≡_};
 ghost use mathlib.Core.List.{[], _∷_, _++_};
 ghost use Prim.Native.Nat.{_+_, _≤_};
 ghost use lib.IntN.{natAbs};
 ghost use lib.ListN.{length};
 ghost use Rattle.lineruns_text.specs.Writing.{decimal, signed, axisName, axisText, refusedLine, runLine};
-ghost use Rattle.lineruns_text.specs.Written.{written, Wrote};
-
-// Writes one byte.
-fn write_byte(byte: u8, at: usize, output: &mut [u8]) -> usize
-    requires { ⌜ at + 1 ≤ length (now output) ⌝ }
-    ensures { λ r. ⌜ Wrote at (byte ∷ []) (now (output .entry)) (now (output .exit)) r ⌝ }
-{
-    output[at] = byte;
-    at + 1
-}
-
-// Writes the bytes of a text.
-fn write_bytes(text: &[u8], at: usize, output: &mut [u8]) -> usize
-    requires { ⌜ at + length (now text) ≤ length (now output) ⌝ }
-    ensures { λ r. ⌜ Wrote at (now (text .entry)) (now (output .entry)) (now (output .exit)) r ⌝ }
-{
-    let mut i = 0;
-    while i < text.len() {
-        output[at + i] = text[i];
-        i += 1;
-    }
-    at + i
-}
+ghost use Rattle.buffer.specs.Written.{written, Wrote};
 
 // How many digits a number has.
 fn places(n: u64) -> usize

@@ -1,5 +1,5 @@
 -- An operation hands a check's refusal on: its answer is then that refusal, and its buffers stay as they were.
-use Prim.Native.Nat.{ℕ, zero, suc}
+use Prim.Native.Nat.{ℕ, zero, suc, _≤_, _<_}
 use mathlib.Core.Bool.{Bool, true, cond}
 use mathlib.Core.List.{List, _++_}
 use mathlib.Core.Path.{_≡_, refl, sym, ap, _∙_}
@@ -7,10 +7,32 @@ use mathlib.Core.Logic.{_⊎_, inl, inr, ⊎-elim}
 use native.Mathlib.Omega.{arith}
 use Rattle.refusal.specs.Refusal.{Answer, given, refused, refusedAt, turnedAway, answer, unlessRefused, numberOf, number, place, isRefused, checked, firstMet}
 use Rattle.refusal.specs.declared.Refusal.{Refusal}
-use Rattle.refusal.specs.declared.Refusal.the-variants.{Ends, Size, Place, RasterLength, ListLength, Rows, RunCount, Run, Input}
+use Rattle.refusal.specs.declared.Refusal.the-variants.{Ends, Size, Place, RasterLength, ListLength, Rows, RunCount, Run, Input, File, Table, Record}
 use Rattle.refusal.specs.declared.Check.{Check}
 use Rattle.refusal.specs.declared.Check.the-variants.{Passed, Refused}
 use Rattle.refusal.proofs.Conditions.{append-met}
+
+-- a refusal's number has at most two digits, and its answer, whatever the values would be, is that number, with the place where
+-- it has one
+pub record Turned (r : Refusal) : Type 1 where
+  pub some : 1 ≤ number r
+  pub few : number r < 100
+  pub form : ((place r ≡ 0) × ((A : Type 0) → turnedAway {A = A} r ≡ refused (number r)))
+      ⊎ ((A : Type 0) → turnedAway {A = A} r ≡ refusedAt (number r) (place r))
+
+pub turned : (r : Refusal) → Turned r
+turned Ends = record { some = omega arith; few = omega arith; form = inl (refl, λ A. refl) }
+turned Size = record { some = omega arith; few = omega arith; form = inl (refl, λ A. refl) }
+turned Place = record { some = omega arith; few = omega arith; form = inl (refl, λ A. refl) }
+turned RasterLength = record { some = omega arith; few = omega arith; form = inl (refl, λ A. refl) }
+turned ListLength = record { some = omega arith; few = omega arith; form = inl (refl, λ A. refl) }
+turned Rows = record { some = omega arith; few = omega arith; form = inl (refl, λ A. refl) }
+turned RunCount = record { some = omega arith; few = omega arith; form = inl (refl, λ A. refl) }
+turned (Run at) = record { some = omega arith; few = omega arith; form = inr (λ A. refl) }
+turned Input = record { some = omega arith; few = omega arith; form = inl (refl, λ A. refl) }
+turned File = record { some = omega arith; few = omega arith; form = inl (refl, λ A. refl) }
+turned Table = record { some = omega arith; few = omega arith; form = inl (refl, λ A. refl) }
+turned Record = record { some = omega arith; few = omega arith; form = inl (refl, λ A. refl) }
 
 -- the same answer with another value in the place of a given one
 instead : {A B : Type 0} → B → Answer A → Answer B
@@ -21,38 +43,21 @@ instead b (refusedAt n place) = refusedAt n place
 module _ {B : Type 0} (b : B) where
   instead-turned : (A : Type 0) (r : Refusal) → instead b (turnedAway {A = A} r) ≡ turnedAway r
   unfolding instead
-  instead-turned A Ends = refl
-  instead-turned A Size = refl
-  instead-turned A Place = refl
-  instead-turned A RasterLength = refl
-  instead-turned A ListLength = refl
-  instead-turned A Rows = refl
-  instead-turned A RunCount = refl
-  instead-turned A (Run place) = refl
-  instead-turned A Input = refl
+  instead-turned A r =
+      ⊎-elim
+      (λ x. ap (instead b) (x .1 A) ∙ sym (x .1 B))
+      (λ x. ap (instead b) (x A) ∙ sym (x B))
+      (turned r .form)
 
   instead-answer : {A : Type 0} (n : ℕ) (a : A) → instead b (answer n a) ≡ answer n b
   unfolding instead
   instead-answer zero a = refl
   instead-answer (suc n) a = refl
 
--- a refusal's answer is its number, with the place where it has one
-turned-is : (A : Type 0) (r : Refusal)
-    → ((turnedAway {A = A} r ≡ refused (number r)) × (place r ≡ 0)) ⊎ (turnedAway {A = A} r ≡ refusedAt (number r) (place r))
-turned-is A Ends = inl (refl, refl)
-turned-is A Size = inl (refl, refl)
-turned-is A Place = inl (refl, refl)
-turned-is A RasterLength = inl (refl, refl)
-turned-is A ListLength = inl (refl, refl)
-turned-is A Rows = inl (refl, refl)
-turned-is A RunCount = inl (refl, refl)
-turned-is A (Run at) = inr refl
-turned-is A Input = inl (refl, refl)
-
 -- so what is said of both forms is said of every refusal's answer
 pub turned-by : {A B : Type 0} (f : Answer A → B) (b : B) (r : Refusal) → (place r ≡ 0 → f (refused (number r)) ≡ b)
     → f (refusedAt (number r) (place r)) ≡ b → f (turnedAway r) ≡ b
-turned-by {A} f b r p q = ⊎-elim (λ x. ap f (x .0) ∙ p (x .1)) (λ x. ap f x ∙ q) (turned-is A r)
+turned-by {A} f b r p q = ⊎-elim (λ x. ap f (x .1 A) ∙ p (x .0)) (λ x. ap f (x A) ∙ q) (turned r .form)
 
 module _ (A : Type 0) (r : Refusal) where
   pub number-is : numberOf (turnedAway {A = A} r) ≡ number r

@@ -1,9 +1,10 @@
--- Document 01, 'Turned away': the numbers of the refusals, and an operation's answer in the paper's terms. Assumes nothing.
+-- Document 01, 'Turned away', with the numbers that document 02 adds: the numbers of the refusals, and an operation's answer in
+-- the paper's terms. Assumes nothing.
 use Prim.Native.Nat.{ℕ, zero, suc}
 use mathlib.Core.Bool.{Bool, true, false, cond}
 use mathlib.Core.List.{List, [], _∷_}
 use Rattle.refusal.specs.declared.Refusal.{Refusal}
-use Rattle.refusal.specs.declared.Refusal.the-variants.{Ends, Size, Place, RasterLength, ListLength, Rows, RunCount, Run, Input}
+use Rattle.refusal.specs.declared.Refusal.the-variants.{Ends, Size, Place, RasterLength, ListLength, Rows, RunCount, Run, Input, File, Table, Record}
 use Rattle.refusal.specs.declared.Check.{Check}
 use Rattle.refusal.specs.declared.Check.the-variants.{Passed, Refused}
 
@@ -24,6 +25,9 @@ turnedAway Rows = refused 6
 turnedAway RunCount = refused 7
 turnedAway (Run place) = refusedAt 8 place
 turnedAway Input = refused 9
+turnedAway File = refused 10
+turnedAway Table = refused 11
+turnedAway Record = refused 12
 
 -- what a check answers: nothing, or the refusal
 abbrev pub checked : Check → Answer Unit

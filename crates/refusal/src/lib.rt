@@ -1,8 +1,9 @@
-// Why an operation turns its arguments away: document 01's list of refusals, and what a test of them answers.
+// Why an operation turns its arguments away: document 01's list of refusals, which document 02 goes on with, and what a test of
+// them answers.
 ghost use mathlib.Core.Path.{_≡_};
 ghost use Rattle.refusal.specs.Refusal.{number, place};
 
-// Document 01's refusals, in the order of their numbers.
+// The refusals, in the order of their numbers.
 pub enum Refusal {
     // 1: a coordinate of an end is out of range.
     Ends,
@@ -22,10 +23,16 @@ pub enum Refusal {
     Run(u32),
     // 9: the input is not one line of four numbers.
     Input,
+    // 10: the file's length is out of range, or it lacks the letters; writing, it would be too long.
+    File,
+    // 11: the file's table, its position and its lengths do not fit together.
+    Table,
+    // 12: a coordinate of a record is out of range.
+    Record,
 }
 
 impl Refusal {
-    // The refusal's number in document 01.
+    // The refusal's number.
     pub fn number(self) -> u32
         ensures { λ r. ⌜ r ≡ number self ⌝ }
     {
@@ -39,6 +46,9 @@ impl Refusal {
             Refusal::RunCount => 7,
             Refusal::Run(_) => 8,
             Refusal::Input => 9,
+            Refusal::File => 10,
+            Refusal::Table => 11,
+            Refusal::Record => 12,
         }
     }
 
@@ -56,6 +66,9 @@ impl Refusal {
             Refusal::RunCount => 0,
             Refusal::Run(place) => place,
             Refusal::Input => 0,
+            Refusal::File => 0,
+            Refusal::Table => 0,
+            Refusal::Record => 0,
         }
     }
 }

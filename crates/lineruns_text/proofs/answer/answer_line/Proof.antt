@@ -10,8 +10,9 @@ use Rattle.line.specs.Line.{short, axis}
 use Rattle.line.specs.Listing.{listConditions, lineList, listed}
 use Rattle.line.specs.declared.ends.Ends.{Ends}
 use native.Mathlib.Omega.{arith}
+use Rattle.refusal.proofs.Handing.{turned}
 use Rattle.lineruns_text.proofs.Lines.{refused-line-length}
-use Rattle.lineruns_text.proofs.Answering.{number-small, few, list-room, good, told-list, told-refused}
+use Rattle.lineruns_text.proofs.Answering.{few, list-room, good, told-list, told-refused}
 use borrow.Author.Needs.{needs}
 use Rattle.lineruns_text.proofs.answer.answer_line.Statement.{statement}
 use Rattle.lineruns_text.proofs.answer.answer_line.Tie as tie
@@ -69,7 +70,7 @@ number-requires c κs = search needs
 
 write-refused-requires : tie.Need-write-refused-requires
 write-refused-requires c κs =
-    omega (arith, c .before .number .ensures, refused-line-length (c .before .number .result) (omega (arith, c .before .number .ensures, number-small (c .before .before .before .refusal .given .0 .0) .1)))
+    omega (arith, c .before .number .ensures, refused-line-length (c .before .number .result) (omega (arith, c .before .number .ensures, turned (c .before .before .before .refusal .given .0 .0) .few)))
 
 same-length : tie.Need-same-length
 same-length c = search needs

@@ -6,8 +6,8 @@ use lib.ListN.{length}
 use Rattle.counting.specs.Count.{each}
 use Rattle.runs.specs.Painting.{runAt}
 use Rattle.lineruns_text.specs.Writing.{runLines}
-use Rattle.lineruns_text.specs.Written.{Wrote}
-use Rattle.lineruns_text.proofs.Placing.{length-written}
+use Rattle.buffer.specs.Written.{Wrote}
+use Rattle.buffer.proofs.Placing.{length-written}
 use Rattle.lineruns_text.proofs.RunLines.{lines-none, wrote-none, natural-read, length-more, line-room, line-wrote}
 use Rattle.lineruns_text.proofs.print.write_runs.Statement.{statement}
 use Rattle.lineruns_text.proofs.print.write_runs.Tie as tie

@@ -3,7 +3,7 @@ use Prim.Native.Nat.{_+_, _≤_}
 use mathlib.Core.List.{_++_}
 use lib.ListN.{length}
 use Rattle.lineruns_text.specs.Writing.{axisName}
-use Rattle.lineruns_text.proofs.Placing.{room-first, room-after, wrote-both}
+use Rattle.buffer.proofs.Placing.{room-first, room-after, wrote-both}
 use Rattle.lineruns_text.proofs.Lines.{runs-word, ended, axis-line}
 use borrow.Author.Needs.{needs}
 use Rattle.lineruns_text.proofs.write.write_axis.Statement.{statement}

@@ -1,7 +1,7 @@
 -- The number is written, then the byte behind it.
 use mathlib.Core.List.{[], _∷_}
 use Rattle.lineruns_text.specs.Writing.{decimal}
-use Rattle.lineruns_text.proofs.Placing.{room-first, room-after, wrote-both}
+use Rattle.buffer.proofs.Placing.{room-first, room-after, wrote-both}
 use borrow.Author.Needs.{needs}
 use Rattle.lineruns_text.proofs.write.write_decimal_then.Statement.{statement}
 use Rattle.lineruns_text.proofs.write.write_decimal_then.Tie as tie

@@ -4,7 +4,7 @@ use mathlib.Core.Path.{_≡_, refl, _∙_}
 use native.Mathlib.Omega.{arith}
 use lib.ListN.{length, length-set}
 use Rattle.lineruns_text.specs.Writing.{decimal}
-use Rattle.lineruns_text.specs.Written.{written}
+use Rattle.buffer.specs.Written.{written}
 use Rattle.lineruns_text.proofs.Decimals.{decimal-some, digit-count}
 use Rattle.lineruns_text.proofs.Figures.{figure-before, first-figure}
 use Rattle.lineruns_text.proofs.write.write_digits.Statement.{statement}

@@ -1,6 +1,6 @@
 -- The word, then the letter.
 use mathlib.Core.List.{[], _∷_}
-use Rattle.lineruns_text.proofs.Placing.{wrote-both}
+use Rattle.buffer.proofs.Placing.{wrote-both}
 use Rattle.lineruns_text.proofs.Lines.{axis-word}
 use borrow.Author.Needs.{needs}
 use Rattle.lineruns_text.proofs.write.write_letter.Statement.{statement}

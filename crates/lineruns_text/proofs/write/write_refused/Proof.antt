@@ -2,7 +2,7 @@
 use Prim.Native.Nat.{_+_, _≤_}
 use mathlib.Core.List.{_++_}
 use lib.ListN.{length}
-use Rattle.lineruns_text.proofs.Placing.{room-first, room-after, wrote-both}
+use Rattle.buffer.proofs.Placing.{room-first, room-after, wrote-both}
 use Rattle.lineruns_text.proofs.Lines.{refused-word, ended, refused-line}
 use borrow.Author.Needs.{needs}
 use Rattle.lineruns_text.proofs.write.write_refused.Statement.{statement}

@@ -8,7 +8,7 @@ use mir.Syntax.{w32}
 use mir.Val.{toZ, ofZ}
 use mir.ValLaws.{toZ-ofZ}
 use Rattle.lineruns_text.specs.Writing.{runLine}
-use Rattle.lineruns_text.proofs.Placing.{room-first, room-after, wrote-both}
+use Rattle.buffer.proofs.Placing.{room-first, room-after, wrote-both}
 use Rattle.lineruns_text.proofs.Lines.{blanked, ended, run-line}
 use borrow.Author.Needs.{needs}
 use Rattle.lineruns_text.proofs.write.write_run.Statement.{statement}

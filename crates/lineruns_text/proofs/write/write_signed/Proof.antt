@@ -7,7 +7,7 @@ use lib.ListN.{length}
 use mir.Syntax.{w32}
 use mir.ValLaws.{toZ-ofZ}
 use Rattle.lineruns_text.specs.Writing.{decimal, signed}
-use Rattle.lineruns_text.proofs.Placing.{room-first, room-after, wrote-both}
+use Rattle.buffer.proofs.Placing.{room-first, room-after, wrote-both}
 use Rattle.lineruns_text.proofs.Signs.{signed-below, signed-above}
 use borrow.Author.Needs.{needs}
 use Rattle.lineruns_text.proofs.write.write_signed.Statement.{statement}

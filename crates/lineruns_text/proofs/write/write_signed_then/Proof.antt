@@ -7,7 +7,7 @@ use mir.Syntax.{w32}
 use mir.Val.{toZ, ofZ}
 use mir.ValLaws.{toZ-ofZ}
 use Rattle.lineruns_text.specs.Writing.{signed}
-use Rattle.lineruns_text.proofs.Placing.{room-first, room-after, wrote-both}
+use Rattle.buffer.proofs.Placing.{room-first, room-after, wrote-both}
 use borrow.Author.Needs.{needs}
 use Rattle.lineruns_text.proofs.write.write_signed_then.Statement.{statement}
 use Rattle.lineruns_text.proofs.write.write_signed_then.Tie as tie

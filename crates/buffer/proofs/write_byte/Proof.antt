@@ -2,9 +2,9 @@
 use mathlib.Core.Path.{refl}
 use native.Mathlib.Omega.{arith}
 use borrow.Author.Needs.{needs}
-use Rattle.lineruns_text.proofs.Placing.{written-byte}
-use Rattle.lineruns_text.proofs.write.write_byte.Statement.{statement}
-use Rattle.lineruns_text.proofs.write.write_byte.Tie as tie
+use Rattle.buffer.proofs.Placing.{written-byte}
+use Rattle.buffer.proofs.write_byte.Statement.{statement}
+use Rattle.buffer.proofs.write_byte.Tie as tie
 
 slice-write-output : tie.Need-slice-write-output
 slice-write-output c = search needs

@@ -4,9 +4,9 @@ use mathlib.Core.Path.{_≡_}
 use native.Mathlib.Omega.{arith}
 use lib.ListN.{length, length-set}
 use lib.Seq.{paste, paste-zero}
-use Rattle.lineruns_text.proofs.Placing.{paste-next, pasted}
-use Rattle.lineruns_text.proofs.write.write_bytes.Statement.{statement}
-use Rattle.lineruns_text.proofs.write.write_bytes.Tie as tie
+use Rattle.buffer.proofs.Placing.{paste-next, pasted}
+use Rattle.buffer.proofs.write_bytes.Statement.{statement}
+use Rattle.buffer.proofs.write_bytes.Tie as tie
 
 abbrev Inv-loop : tie.InvT-loop
 Inv-loop text at output₀ i₀ output i = (i ≤ length text) × (length output ≡ length output₀) × (output ≡ paste output₀ at text i)

@@ -7,7 +7,7 @@ use native.Mathlib.Numerals.{add-one}
 use native.Mathlib.Omega.{arith}
 use lib.ListN.{length, getD, take, drop, set, length-append, length-drop}
 use lib.Seq.{length-take-le, take-at, take-length, drop-cons, drop-drop, drop-append-add, drop-set-lt, getD-set-same, lt-length-set, set-split, take-set-le, append-snoc, paste, paste-zero, paste-suc}
-use Rattle.lineruns_text.specs.Written.{written, Wrote}
+use Rattle.buffer.specs.Written.{written, Wrote}
 
 module _ (at : ℕ) (text buffer : List ℕ) (room : at + length text ≤ length buffer) where
   head-length : length (take at buffer ++ text) ≡ at + length text
