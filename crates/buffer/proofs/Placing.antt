@@ -1,11 +1,11 @@
 -- Writing a text and then another behind it is writing both: `written` of two texts is `written` twice.
 use Prim.Native.Nat.{ℕ, suc, _+_, _≤_, _<_}
 use mathlib.Core.Path.{_≡_, sym, ap, _∙_}
-use mathlib.Core.List.{List, [], _∷_, _++_, append-assoc}
+use mathlib.Core.List.{List, [], _∷_, _++_, append-assoc, append-nil}
 use native.Mathlib.Nat.{add-assoc, add-zero}
 use native.Mathlib.Numerals.{add-one}
 use native.Mathlib.Omega.{arith}
-use lib.ListN.{length, getD, take, drop, set, length-append, length-drop}
+use lib.ListN.{length, getD, take, drop, set, length-append, length-drop, drop-of-length-le}
 use lib.Seq.{length-take-le, take-at, take-length, drop-cons, drop-drop, drop-append-add, drop-set-lt, getD-set-same, lt-length-set, set-split, take-set-le, append-snoc, paste, paste-zero, paste-suc}
 use Rattle.buffer.specs.Written.{written, Wrote}
 
@@ -97,3 +97,11 @@ wrote-nothing at buffer = record { place = sym (add-zero at); buffer = paste-zer
 pub wrote-all : (text entry exit : List ℕ) (next : ℕ) → length text ≤ length entry → Wrote 0 text entry exit next → take next exit ≡ text
 wrote-all text entry exit next room wrote =
     rw (wrote .place, wrote .buffer) (take-written 0 text entry (omega arith))
+
+-- a text as long as the buffer is all of it
+pub wrote-whole : (text entry exit : List ℕ) (next : ℕ) → length text ≡ length entry → Wrote 0 text entry exit next → exit ≡ text
+unfolding written
+wrote-whole text entry exit next e wrote =
+    wrote .buffer
+    ∙ ap (λ (rest : List ℕ). text ++ rest) (drop-of-length-le entry {i = 0 + length text} (omega arith))
+    ∙ append-nil text
