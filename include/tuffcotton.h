@@ -14,7 +14,9 @@
  * is out of the coordinate range, or its last column or row is above 16383; 4 the raster's length is not height times the bytes
  * of a row; 5 the list is too short for the line's runs; 6 a band has no rows or ends below the window, or a row number is not
  * below the height; 7 three times the count of runs is more than the list's length; 8 a run has no pixel, or one out of the
- * coordinate range; 9 the input of lineruns is not one line of four numbers. They are tested in the order of the numbers. */
+ * coordinate range; 9 the input of lineruns is not one line of four numbers; 10 a reel's file is under 12 or over 65536 bytes
+ * or lacks the letters, or would be longer; 11 its table falls, or table, position and lengths do not fit together; 12 a
+ * record's coordinate is out of range. They are tested in the order of the numbers. */
 #ifndef TUFFCOTTON_H
 #define TUFFCOTTON_H
 
@@ -46,6 +48,15 @@ typedef struct { uint32_t refused, found; int32_t column, row; } tc_found;
 /* A part of a raster: the place of its first byte, and its length in bytes. 0, 0 is the empty part. */
 typedef struct { size_t place, len; } tc_part;
 
+/* Where a frame's records are in a reel's file: 0 or the refusal's number; 1 where the file has the frame, else 0; the place of
+ * the first record's first byte, and the length of all of them, in bytes. Place and length are 0 where refused or not found. */
+typedef struct { uint32_t refused, found; uint32_t place, len; } tc_frame;
+
+/* A drawing of a frame's lines: 0 or the refusal's number; 1 where the file has the frame, else 0; the sum over the lines of
+ * their pixels, an overlap counted each time; how many of these pixels were unmarked at the call, an overlap counted once. Both
+ * counts are 0 where refused or not found. */
+typedef struct { uint32_t refused, found; uint64_t count, fresh; } tc_frame_drawn;
+
 /* Whether a window is within the limits: 0, or 2 or 3. */
 uint32_t tc_window_check(int32_t left, int32_t top, uint32_t width, uint32_t height);
 
@@ -75,6 +86,25 @@ tc_part tc_row_view(tc_window window, const uint8_t *raster, size_t len, uint32_
 
 /* The first marked pixel, row by row from the top and in each row from the left. Padding is never found. Refuses 2, 3, 4. */
 tc_found tc_first_marked(tc_window window, const uint8_t *raster, size_t len);
+
+/* The marks of a reel in one file. A record is 8 bytes, a line's first column, first row, second column and second row, each a
+ * signed number of 16 bits. Behind the records stands the table: for each frame from 0 an unsigned number of 32 bits, the records
+ * up to this frame's end. The last 12 bytes are the table's position in bytes, the number of frames, both like the table's
+ * numbers, and the letters MRKS. Every number has its low byte first. */
+
+/* Where the records of a frame, counted from 0, are in the file; not found where its number is not below the number of frames.
+ * Every record of the file is tested, whatever the frame. Refuses 10, 11, 12. */
+tc_frame tc_reel_find(const uint8_t *file, size_t len, uint32_t frame);
+
+/* Writes the file of a list of `n` numbers, four to a record, and a table of `frames` numbers. `room` is exactly the file's
+ * length, 2 * n + 4 * frames + 12. Answers 0, or 10, 11 or 12 with the buffer unaltered. */
+uint32_t tc_reel_write(const int32_t *list, size_t n, const uint32_t *table, size_t frames, uint8_t *out, size_t room);
+
+/* Marks the pixels of all lines of a frame in the window's rows from `first` up to, but without, first + rows, read straight from
+ * the file. `raster` is the whole window's; only the band's rows are written. Where the file does not have the frame nothing
+ * changes. Refuses 2, 3, 4, 6, 10, 11, 12. */
+tc_frame_drawn tc_reel_draw(const uint8_t *file, size_t len, uint32_t frame, tc_window window, uint32_t first, uint32_t rows,
+                            uint8_t *raster, size_t raster_len);
 
 /* Writes what the program lineruns prints for its input, and answers the number of bytes written. Where room is under 110000
  * it writes nothing and answers 0; no printed text is longer. */

@@ -13,7 +13,7 @@ ghost use Rattle.raster.specs.Drawn.{drawn};
 ghost use Rattle.band.specs.Drawing.{bandOut, bandConditions, bandMarks, bandRaster, bandAnswer, bandAfter};
 
 // Whether a band has no rows or ends below the window. The sum is made in 64 bits, where it cannot overflow.
-fn band_out(window: Window, first: u32, rows: u32) -> bool
+pub fn band_out(window: Window, first: u32, rows: u32) -> bool
     ensures { λ r. ⌜ r ≡ bandOut window first rows ⌝ }
 {
     rows == 0 || (window.height as u64) < first as u64 + rows as u64

@@ -10,19 +10,14 @@ ghost use Rattle.buffer.specs.Written.{Wrote};
 ghost use Rattle.reel.specs.Numbers.{bytesOf, numberAt, complement, signed};
 ghost use Rattle.reel.specs.Reel.{coordinates};
 
-// The number of two bytes.
-fn pair(low: u8, high: u8) -> u32
-    ensures { λ r. ⌜ r ≡ low + 256 * high ⌝ }
-{
-    low as u32 + 256 * high as u32
-}
-
 // The number whose two bytes stand from `at` on.
 pub fn half(bytes: &[u8], at: usize) -> u32
     requires { ⌜ at + 2 ≤ length (now bytes) ⌝ }
     ensures { λ r. ⌜ (r ≡ numberAt 2 (now (bytes .entry)) at) × (r < 65536) ⌝ }
 {
-    pair(bytes[at], bytes[at + 1])
+    let low = bytes[at] as u32;
+    let high = bytes[at + 1] as u32;
+    low + 256 * high
 }
 
 // The number whose four bytes stand from `at` on.

@@ -80,7 +80,7 @@ module _ (c : tie.After-records-before2) where
   most = omega (arith, at-most-last (table (file start)) (held start .level) (suc k) inside, held start .last, held start .whole, held start .few)
 
 mul-t7 : tie.Need-mul-t7
-mul-t7 c = record { fits = omega (arith, from-is c, rising c, most c) }
+mul-t7 c = record { fits = omega (arith, from-is c, end-is c, rising c, most c) }
 
 sub-t9 : tie.Need-sub-t9
 sub-t9 c = omega (arith, from-is c, end-is c, rising c)

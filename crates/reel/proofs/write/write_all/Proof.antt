@@ -73,7 +73,7 @@ module _ (c : tie.After-write-table) where
 cast-write-trailer : tie.Need-cast-write-trailer
 cast-write-trailer c =
     let t = c .before .before in
-    record { fits = omega (arith, position-is t, held (start t) .few) }
+    record { fits = omega (arith, position-is t, both-written t .place, room-both (start t), held (start t) .whole, held (start t) .few) }
 
 cast-write-trailer-2 : tie.Need-cast-write-trailer-2
 cast-write-trailer-2 c = let t = c .before .before in record { fits = omega (arith, held (start t) .few) }
