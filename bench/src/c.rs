@@ -60,6 +60,22 @@ struct Found {
     row: i32,
 }
 
+#[repr(C)]
+struct Frame {
+    refused: u32,
+    found: u32,
+    place: u32,
+    len: u32,
+}
+
+#[repr(C)]
+struct FrameDrawn {
+    refused: u32,
+    found: u32,
+    count: u64,
+    fresh: u64,
+}
+
 extern "C" {
     fn tc_draw_single(ends: Ends, window: Window, raster: *mut u8, len: usize) -> Drawn;
     fn tc_draw_double(ends: Ends, window: Window, raster: *mut u8, len: usize) -> Drawn;
@@ -75,6 +91,18 @@ extern "C" {
         len: usize,
     ) -> Drawn;
     fn tc_first_marked(window: Window, raster: *const u8, len: usize) -> Found;
+    fn tc_reel_find(file: *const u8, len: usize, frame: u32) -> Frame;
+    fn tc_reel_write(list: *const i32, n: usize, table: *const u32, frames: usize, out: *mut u8, room: usize) -> u32;
+    fn tc_reel_draw(
+        file: *const u8,
+        len: usize,
+        frame: u32,
+        window: Window,
+        first: u32,
+        rows: u32,
+        raster: *mut u8,
+        raster_len: usize,
+    ) -> FrameDrawn;
     fn memchr(bytes: *const c_void, byte: c_int, len: usize) -> *const c_void;
 }
 
@@ -118,6 +146,31 @@ pub fn first_marked(window: Window, raster: &[u8]) -> Option<(i32, i32)> {
     let found = unsafe { tc_first_marked(window, raster.as_ptr(), raster.len()) };
     assert_eq!(found.refused, 0);
     (found.found != 0).then_some((found.column, found.row))
+}
+
+/// The place and the length of a frame's records in a reel's file.
+pub fn reel_find(file: &[u8], frame: u32) -> Option<(u32, u32)> {
+    let part = unsafe { tc_reel_find(file.as_ptr(), file.len(), frame) };
+    assert_eq!(part.refused, 0);
+    (part.found != 0).then_some((part.place, part.len))
+}
+
+pub fn reel_write(list: &[i32], table: &[u32], out: &mut [u8]) {
+    let (numbers, frames) = (list.as_ptr(), table.as_ptr());
+    let (start, room) = (out.as_mut_ptr(), out.len());
+    let refused = unsafe { tc_reel_write(numbers, list.len(), frames, table.len(), start, room) };
+    assert_eq!(refused, 0);
+}
+
+/// Draws frame 0 of a reel's file in the whole window.
+pub fn reel_draw(file: &[u8], window: Window, raster: &mut [u8]) -> Marks {
+    let (start, len) = (raster.as_mut_ptr(), raster.len());
+    let drawn = unsafe { tc_reel_draw(file.as_ptr(), file.len(), 0, window, 0, window.height, start, len) };
+    assert_eq!((drawn.refused, drawn.found), (0, 1));
+    Marks {
+        count: drawn.count,
+        fresh: drawn.fresh,
+    }
 }
 
 /// The place of the first byte that equals `byte`.

@@ -7,6 +7,7 @@ mod commit;
 mod drawers;
 mod lines;
 mod outside;
+mod reel;
 mod runs;
 mod search;
 mod spans;
@@ -15,8 +16,9 @@ mod table;
 use c::{Ends, Window};
 use clock::{Buffers, Clock, REPEATS};
 use drawers::Drawers;
-use lines::{FAR, FRAME, KINDS, LEAN, LINES};
+use lines::{Kind, FAR, FRAME, KINDS, LEAN, LINES};
 use outside::{Outside, LARGE, SMALL};
+use reel::{Marked, Reel};
 use runs::{Listed, Lister};
 use search::Search;
 use spans::{Spans, LENGTHS};
@@ -32,12 +34,18 @@ struct Work {
     short: Vec<Ends>,
     from_outside: [Vec<Ends>; KINDS.len()],
     spans: [Vec<i32>; LENGTHS.len()],
+    longest: Marked,
+    frame: Marked,
 }
 
 impl Work {
     fn new() -> Work {
+        let in_frame = KINDS.map(lines::in_frame);
+        let any = &in_frame[Kind::AnyDirection as usize];
         Work {
-            in_frame: KINDS.map(lines::in_frame),
+            longest: Marked::longest(any),
+            frame: Marked::frame(any),
+            in_frame,
             short: lines::short(),
             from_outside: KINDS.map(lines::from_outside),
             spans: LENGTHS.map(lines::spans),
@@ -57,6 +65,11 @@ impl Work {
         all
     }
 
+    /// The lines of the frame that is drawn from its file.
+    fn marked(&self) -> &[Ends] {
+        &self.in_frame[Kind::AnyDirection as usize]
+    }
+
     fn check(&self, buffers: &mut Buffers) {
         for lines in &self.in_frame {
             check::drawers(lines, buffers);
@@ -68,6 +81,7 @@ impl Work {
             check::spans(list, buffers);
         }
         check::search(buffers);
+        self.frame.check(self.marked(), buffers);
         for lines in &self.from_outside {
             check::outside(lines, SMALL, buffers);
             check::outside(lines, LARGE, buffers);
@@ -83,13 +97,13 @@ fn print_head() {
 Frame {width} × {height}, {LINES} lines of a kind. Near-vertical and near-horizontal lines go a quarter of the frame's
 side or further along it, and at most {LEAN} pixels across. Best of {ROUNDS} rounds; in each round every contestant runs once,
 one after the other. All write the same raster, which is cleared before each, outside the time, so caches are warm. The
-list is not cleared. Listers, painters of runs, searches and small windows do their work {REPEATS} times in a round, with no
-clearing between. The hand-written drawers index the raster untested. Every drawer and painter of the library counts the new
+list is not cleared. Listers, painters of runs, searches, small windows and a reel's file do their work {REPEATS} times in a
+round, with no clearing between. The hand-written drawers index the raster untested. Every drawer and painter of the library counts the new
 pixels, those that were unmarked; what stands beside it does so where that is said.
 
 Checked before the timing: contestants with the same work leave equal bytes and answer equal counts. These are the
-drawers and bands in the frame, the listers, painter and memset, the searches, and single step and hand-written drawer on
-lines from outside.
+drawers and bands in the frame, the listers, painter and memset, the searches, what is found, written and drawn of a reel's
+file, and single step and hand-written drawer on lines from outside.
 ",
         commit = commit::name()
     );
@@ -123,6 +137,7 @@ fn main() {
     let lister = Lister::enter(&mut clock, &work.listed());
     let spans = Spans::enter(&mut clock, &work.spans);
     let search = Search::enter(&mut clock);
+    let reel = Reel::enter(&mut clock, &work.longest, &work.frame, work.marked());
     let outside = Outside::enter(&mut clock, &work.from_outside, &mut buffers.raster);
     clock.run(ROUNDS, &mut buffers);
 
@@ -132,5 +147,6 @@ fn main() {
     rows.extend(lister.rows(&clock));
     rows.extend(spans.rows(&clock));
     rows.extend(search.rows(&clock));
+    rows.extend(reel.rows(&clock));
     print!("What is asked:\n\n{}", table::asked(rows));
 }

@@ -3,3 +3,4 @@ pub mod bytes;
 pub mod draw;
 pub mod line;
 pub mod list;
+pub mod reel;

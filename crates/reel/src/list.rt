@@ -1,4 +1,6 @@
 // The tests of what is to be written: a list of coordinates, four to a record, and a table.
+use crate::format::LONGEST;
+use crate::format::TRAILER;
 use coordinate::Coordinate;
 use refusal::Check;
 use refusal::Refusal;
@@ -15,13 +17,13 @@ fn too_long(list: &[i32], table: &[u32]) -> bool
 {
     let numbers = list.len();
     let frames = table.len();
-    if 65536 < numbers {
+    if LONGEST < numbers {
         return true;
     }
-    if 65536 < frames {
+    if LONGEST < frames {
         return true;
     }
-    65536 < 2 * numbers + 4 * frames + 12
+    LONGEST < 2 * numbers + 4 * frames + TRAILER
 }
 
 // Whether a number of the table is below the one before it.
@@ -63,7 +65,7 @@ fn table_off(list: &[i32], table: &[u32], room: usize) -> bool
     if list.len() as u64 != 4 * last_of(table) as u64 {
         return true;
     }
-    room != 2 * list.len() + 4 * table.len() + 12
+    room != 2 * list.len() + 4 * table.len() + TRAILER
 }
 
 // Whether a coordinate of the list is out of range.

@@ -1,4 +1,6 @@
 // The table in a file, and what the last bytes say of it.
+use crate::format::FRAMES;
+use crate::format::TRAILER;
 use crate::number::word;
 ghost use mathlib.Core.Path.{_≡_};
 ghost use Prim.Native.Nat.{_+_, _*_, _≤_};
@@ -11,7 +13,7 @@ pub fn position_of(file: &[u8]) -> u32
     requires { ⌜ 12 ≤ length (now file) ⌝ }
     ensures { λ r. ⌜ r ≡ position (now (file .entry)) ⌝ }
 {
-    word(file, file.len() - 12)
+    word(file, file.len() - TRAILER)
 }
 
 // The number of frames, as the last bytes say it.
@@ -19,7 +21,7 @@ pub fn frames_of(file: &[u8]) -> u32
     requires { ⌜ 12 ≤ length (now file) ⌝ }
     ensures { λ r. ⌜ r ≡ frames (now (file .entry)) ⌝ }
 {
-    word(file, file.len() - 8)
+    word(file, file.len() - FRAMES)
 }
 
 // The number of records before frame `k`, by the table that stands from `at` on.

@@ -3,7 +3,7 @@ use band::draw::draw_band;
 use line::ends::Ends;
 use raster::drawn::Marks;
 use raster::window::Window;
-use reel::number::coordinate_at;
+use reel::coordinates::coordinate_at;
 ghost use mathlib.Core.Path.{_≡_};
 ghost use mathlib.Core.Bool.{false};
 ghost use Prim.Native.Nat.{_*_, _/_, _<_};

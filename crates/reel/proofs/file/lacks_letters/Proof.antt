@@ -32,14 +32,14 @@ add-if1 c = search needs
 shared-slice-read-if1 : tie.Need-shared-slice-read-if1 Inv-loop μ-loop
 shared-slice-read-if1 c = search needs
 
-element-copy-out-if1 : tie.Need-element-copy-out-if1 Inv-loop μ-loop
-element-copy-out-if1 c = search needs
+array-read-if1 : tie.Need-array-read-if1 Inv-loop μ-loop
+array-read-if1 c = search needs
 
 returns : tie.Need-returns Inv-loop μ-loop
 unfolding lacksLetters
 returns c =
-    let at = c .before .before .before .before in
-    sym (any-make 4 _ (at .loop .k) (c .before .before .before .loop-test .taken) (ap not (ne-eqb _ _ (c .if1 .taken))))
+    let at = c .before .before .before in
+    sym (any-make 4 _ (at .loop .k) (c .before .before .loop-test .taken) (ap not (ne-eqb _ _ (c .if1 .taken))))
 
 add-k : tie.Need-add-k Inv-loop μ-loop
 add-k c = search needs
@@ -49,7 +49,7 @@ loop-less c = search needs
 
 loop-again : tie.Need-loop-again Inv-loop μ-loop
 loop-again c =
-    let at = c .before .before .before .before in (omega arith, any-more (at .loop .k) _ (at .loop .inv .1) (ap not (eq-eqb _ _ (c .if1 .left))))
+    let at = c .before .before .before in (omega arith, any-more (at .loop .k) _ (at .loop .inv .1) (ap not (eq-eqb _ _ (c .if1 .left))))
 
 returns-2 : tie.Need-returns-2 Inv-loop μ-loop
 unfolding lacksLetters
@@ -68,7 +68,7 @@ lacks-letters-spec =
     loop-holds
     add-if1
     shared-slice-read-if1
-    element-copy-out-if1
+    array-read-if1
     returns
     add-k
     loop-less

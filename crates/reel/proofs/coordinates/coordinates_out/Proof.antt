@@ -13,8 +13,8 @@ use Rattle.counting.proofs.Any.{any-zero, any-more, any-make}
 use Rattle.coordinate.specs.Coordinate.{outOfRange}
 use Rattle.reel.specs.Reel.{coordinatesOut, coordinates}
 use Rattle.reel.proofs.Records.{coordinates-length}
-use Rattle.reel.proofs.file.coordinates_out.Statement.{statement}
-use Rattle.reel.proofs.file.coordinates_out.Tie as tie
+use Rattle.reel.proofs.coordinates.coordinates_out.Statement.{statement}
+use Rattle.reel.proofs.coordinates.coordinates_out.Tie as tie
 
 abbrev Inv-loop : tie.InvT-loop
 Inv-loop bytes count k₀ k = (k ≤ count) × (any k (λ i. outOfRange (getD (coordinates bytes) i (pos 0))) ≡ false)
