@@ -1,8 +1,9 @@
 //! How the C interface states the answers of documents 01 and 02.
-use crate::c::{Drawn, Found, Listed, Part};
+use crate::c::{Drawn, Found, Frame, FrameDrawn, Listed, Part};
 use paper::frame::Pixel;
 use paper::line::Axis;
 use paper::raster::Marks;
+use paper::reel::read::Place;
 use paper::refusal::Refusal;
 use paper::runs::Listing;
 use std::ops::Range;
@@ -80,6 +81,38 @@ impl From<Option<Range<usize>>> for Part {
         Part {
             place: view.start,
             len: view.len(),
+        }
+    }
+}
+
+impl From<Result<Option<Place>, Refusal>> for Frame {
+    fn from(answer: Result<Option<Place>, Refusal>) -> Frame {
+        let (refused, found, place, len) = match answer {
+            Ok(Some(at)) => (0, 1, at.place as u32, at.len as u32),
+            Ok(None) => (0, 0, 0, 0),
+            Err(refusal) => (refusal.number, 0, 0, 0),
+        };
+        Frame {
+            refused,
+            found,
+            place,
+            len,
+        }
+    }
+}
+
+impl From<Result<Option<Marks>, Refusal>> for FrameDrawn {
+    fn from(answer: Result<Option<Marks>, Refusal>) -> FrameDrawn {
+        let (refused, found, marks) = match answer {
+            Ok(Some(marks)) => (0, 1, marks),
+            Ok(None) => (0, 0, Marks::default()),
+            Err(refusal) => (refusal.number, 0, Marks::default()),
+        };
+        FrameDrawn {
+            refused,
+            found,
+            count: marks.count,
+            fresh: marks.fresh,
         }
     }
 }

@@ -56,6 +56,26 @@ pub struct Part {
     pub len: usize,
 }
 
+/// `found` is 0 for none and where refused; `place` and `len`, in bytes, are 0 then.
+#[repr(C)]
+#[derive(Clone, Copy, Debug, PartialEq)]
+pub struct Frame {
+    pub refused: u32,
+    pub found: u32,
+    pub place: u32,
+    pub len: u32,
+}
+
+/// `found` is 0 for none and where refused; `count` and `fresh` are 0 then.
+#[repr(C)]
+#[derive(Clone, Copy, Debug, PartialEq)]
+pub struct FrameDrawn {
+    pub refused: u32,
+    pub found: u32,
+    pub count: u64,
+    pub fresh: u64,
+}
+
 #[link(name = "capi", kind = "static")]
 extern "C" {
     fn tc_window_check(left: i32, top: i32, width: u32, height: u32) -> u32;
@@ -82,6 +102,25 @@ extern "C" {
     fn tc_row_view(window: TcWindow, raster: *const u8, len: usize, row: u32) -> Part;
     fn tc_first_marked(window: TcWindow, raster: *const u8, len: usize) -> Found;
     fn tc_lineruns(input: *const u8, len: usize, output: *mut u8, room: usize) -> usize;
+    fn tc_reel_find(file: *const u8, len: usize, frame: u32) -> Frame;
+    fn tc_reel_write(
+        list: *const i32,
+        n: usize,
+        table: *const u32,
+        frames: usize,
+        out: *mut u8,
+        room: usize,
+    ) -> u32;
+    fn tc_reel_draw(
+        file: *const u8,
+        len: usize,
+        frame: u32,
+        window: TcWindow,
+        first: u32,
+        rows: u32,
+        raster: *mut u8,
+        raster_len: usize,
+    ) -> FrameDrawn;
 }
 
 pub fn window_check(w: Window) -> u32 {
@@ -137,6 +176,30 @@ pub fn first_marked(window: Window, raster: &[u8]) -> Found {
 pub fn lineruns(input: &[u8], output: &mut [u8]) -> usize {
     let (place, room) = (output.as_mut_ptr(), output.len());
     unsafe { tc_lineruns(input.as_ptr(), input.len(), place, room) }
+}
+
+pub fn reel_find(file: &[u8], frame: u32) -> Frame {
+    unsafe { tc_reel_find(file.as_ptr(), file.len(), frame) }
+}
+
+pub fn reel_write(list: &[i32], table: &[u32], out: &mut [u8]) -> u32 {
+    let (numbers, n) = (list.as_ptr(), list.len());
+    let (place, room) = (out.as_mut_ptr(), out.len());
+    unsafe { tc_reel_write(numbers, n, table.as_ptr(), table.len(), place, room) }
+}
+
+pub fn reel_draw(
+    file: &[u8],
+    frame: u32,
+    window: Window,
+    band: Band,
+    raster: &mut [u8],
+) -> FrameDrawn {
+    let (bytes, file_len) = (file.as_ptr(), file.len());
+    let (first, rows) = (band.first, band.rows);
+    let (place, len) = (raster.as_mut_ptr(), raster.len());
+    let window = window.into();
+    unsafe { tc_reel_draw(bytes, file_len, frame, window, first, rows, place, len) }
 }
 
 impl From<Ends> for TcEnds {

@@ -1,6 +1,8 @@
 //! One case of each function: the library and the second implementation get the same arguments, and the whole answer, every
 //! element of every lent buffer and the guards are compared. The number of new pixels is compared with the bits that the call
 //! changed as well.
+pub mod reel;
+
 use crate::added::added;
 use crate::answers::{axis_named, axis_number, number};
 use crate::buffer::Lent;
@@ -19,6 +21,7 @@ pub const LEAST_ROOM: usize = 110_000;
 
 const BYTES: [u8; 4] = [0x00, 0xFF, 0x5A, 0xA5];
 const NUMBERS: [i32; 4] = [0, -1, i32::MIN, i32::MAX];
+const TABLE_NUMBERS: [u32; 4] = [0, 1, 0x8000_0000, u32::MAX];
 
 #[derive(Clone, Copy, Debug)]
 pub enum Drawer {
@@ -47,7 +50,7 @@ impl Stored<'_> {
 }
 
 /// What a drawer or the painter answers, should answer, and added.
-fn drawn_numbers(answer: c::Drawn, expected: c::Drawn, added: Option<u64>) -> String {
+fn drawn_numbers<T: Debug>(answer: T, expected: T, added: Option<u64>) -> String {
     format!("  answer {answer:?}\n  expected {expected:?}\n  added {added:?}\n")
 }
 
@@ -55,6 +58,7 @@ pub struct Comparison {
     pub report: Report,
     raster: Lent<u8>,
     list: Lent<i32>,
+    table: Lent<u32>,
     input: Lent<u8>,
     output: Lent<u8>,
     expected: Vec<u8>,
@@ -66,6 +70,7 @@ impl Comparison {
             report: Report::default(),
             raster: Lent::new(BYTES),
             list: Lent::new(NUMBERS),
+            table: Lent::new(TABLE_NUMBERS),
             input: Lent::new(BYTES),
             output: Lent::new(BYTES),
             expected: Vec::new(),
@@ -96,17 +101,23 @@ impl Comparison {
         self.raster.contents()
     }
 
-    /// Two ways to the same raster or number.
+    /// Two ways to the same result; `what` says which.
+    pub fn equal<T>(&mut self, what: impl FnOnce() -> String, one: &T, other: &T)
+    where
+        T: Debug + PartialEq + ?Sized,
+    {
+        self.report.case(one == other, || {
+            format!("{}\n  {one:?}\n  {other:?}\n", what())
+        });
+    }
+
+    /// Two ways to the same raster or number of a line.
     pub fn same<T>(&mut self, what: &str, line: &Line, window: Window, one: &T, other: &T)
     where
         T: Debug + PartialEq,
     {
-        self.report.case(one == other, || {
-            format!(
-                "{what}: {:?} {window:?}\n  {one:?}\n  {other:?}\n",
-                line.ends
-            )
-        });
+        let what = || format!("{what}: {:?} {window:?}", line.ends);
+        self.equal(what, one, other);
     }
 
     /// A drawer on a raster of its own; hands back the library's counts.

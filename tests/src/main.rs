@@ -22,7 +22,7 @@ const SEED: u64 = 1;
 
 type Run = fn(&mut Comparison, &mut Random);
 
-const PARTS: [(&str, Run); 12] = [
+const PARTS: [(&str, Run); 15] = [
     ("all lines of a small square", parts::square::run),
     ("random lines", parts::lines::run),
     ("hostile windows and rasters", parts::hostile::windows::run),
@@ -35,6 +35,9 @@ const PARTS: [(&str, Run); 12] = [
     ("random run lists", parts::stored::run),
     ("rows and search", parts::rows::run),
     ("lineruns", parts::texts::run),
+    ("reel files", parts::reel::files::run),
+    ("reel writing", parts::reel::writing::run),
+    ("reel drawing", parts::reel::drawing::run),
 ];
 
 fn main() -> ExitCode {

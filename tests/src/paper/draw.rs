@@ -39,6 +39,15 @@ pub fn draw(line: &Line, window: Window, raster: &mut [u8]) -> Result<Marks, Ref
         .sum())
 }
 
+/// What `draw_band` marks and answers where it doesn't refuse.
+pub fn mark_band(line: &Line, window: Window, band: Band, raster: &mut [u8]) -> Marks {
+    line.pixels
+        .iter()
+        .filter(|pixel| band.has(i64::from(pixel.row) - i64::from(window.top)))
+        .map(|pixel| mark(window, raster, *pixel))
+        .sum()
+}
+
 /// Marks the line's pixels in the band's rows of the window: how many they are, and how many were unmarked.
 pub fn draw_band(
     line: &Line,
@@ -53,10 +62,5 @@ pub fn draw_band(
         (4, window.raster_out(raster.len())),
         (6, band.out(window)),
     ])?;
-    Ok(line
-        .pixels
-        .iter()
-        .filter(|pixel| band.has(i64::from(pixel.row) - i64::from(window.top)))
-        .map(|pixel| mark(window, raster, *pixel))
-        .sum())
+    Ok(mark_band(line, window, band, raster))
 }

@@ -6,6 +6,7 @@ pub mod draw;
 pub mod frame;
 pub mod line;
 pub mod raster;
+pub mod reel;
 pub mod refusal;
 pub mod runs;
 pub mod text;

@@ -14,7 +14,7 @@ const LISTS: u32 = 600_000;
 const HIGHEST_WINDOW: u32 = 24;
 
 /// Bands that cover the window's rows, some that overlap them, some that are refused; in random order.
-fn calls(random: &mut Random, height: u32) -> Vec<Band> {
+pub fn calls(random: &mut Random, height: u32) -> Vec<Band> {
     let mut calls = Vec::new();
     let mut first = 0;
     while first < height {
@@ -46,7 +46,7 @@ fn calls(random: &mut Random, height: u32) -> Vec<Band> {
 }
 
 /// How many accepted bands have the row, counted from 0 at the window's top.
-fn accepted(calls: &[Band], window: Window, row: i64) -> usize {
+pub fn accepted(calls: &[Band], window: Window, row: i64) -> usize {
     let has = |band: &&Band| !band.out(window) && band.has(row);
     calls.iter().filter(has).count()
 }

@@ -11,7 +11,7 @@ use paper::line::Line;
 const KINDS: [(i32, u32, u32); 3] = [(40, 1_000_000, 1), (700, 100_000, 2), (32767, 12_000, 6)];
 
 /// A band within the window, or one that ends below it.
-fn band(random: &mut Random, window: Window) -> Band {
+pub fn band(random: &mut Random, window: Window) -> Band {
     let first = random.below(window.height);
     let rows = random.below(window.height - first + 2);
     Band { first, rows }

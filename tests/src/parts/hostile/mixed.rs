@@ -49,14 +49,20 @@ fn raster_len(random: &mut Random, window: Window) -> usize {
     }
 }
 
+/// A window, a raster to start from and a band.
+pub fn frame_and_band(random: &mut Random) -> (Window, Vec<u8>, Band) {
+    let (left, top) = (place(random, 6), place(random, 6));
+    let window = window(left, top, side(random), side(random));
+    let len = raster_len(random, window);
+    let start = bytes(random, len);
+    (window, start, band(random, window))
+}
+
 pub fn run(comparison: &mut Comparison, random: &mut Random) {
     for _ in 0..CASES {
         let mut end = || place(random, 12);
         let line = Line::new(ends(end(), end(), end(), end()));
-        let (left, top) = (place(random, 6), place(random, 6));
-        let window = window(left, top, side(random), side(random));
-        let len = raster_len(random, window);
-        let start = bytes(random, len);
-        everything(comparison, &line, window, &start, band(random, window));
+        let (window, start, band) = frame_and_band(random);
+        everything(comparison, &line, window, &start, band);
     }
 }
