@@ -1,15 +1,19 @@
 -- A band that meets no condition lies in the window; the window of its rows, with their part of the raster, meets none either.
 use Prim.Native.Nat.{ℕ, _+_, _*_, _≤_, _<_}
-use mathlib.Core.Path.{_≡_, refl, _∙_}
+use mathlib.Core.Path.{_≡_, refl, ap₂, _∙_}
 use mathlib.Core.Bool.{false}
 use mathlib.Core.List.{[], _∷_}
 use native.Mathlib.Omega.{arith}
 use native.Mathlib.Nat.{mul-le-mul-right}
+use lib.IntN.{ℤ, _+ℤ_}
 use lib.Dec.{ltb, eqb}
+use mir.Syntax.{w32}
+use mir.Val.{toZ, ofZ, SFits}
+use mir.ValLaws.{toZ-ofZ}
 use borrow.Author.Tests.{ltb-false, eqb-false}
 use Rattle.counting.proofs.Boolean.{or-neither}
 use Rattle.coordinate.specs.Coordinate.{biased}
-use Rattle.coordinate.proofs.Bias.{shifted-in, biased-shifted}
+use Rattle.coordinate.proofs.Bias.{shifted-in, biased-shifted, in-range-fits}
 use Rattle.refusal.specs.Refusal.{firstMet}
 use Rattle.refusal.proofs.Conditions.{none-met, unmet, append-none}
 use Rattle.raster.specs.Raster.{rowBytes}
@@ -17,6 +21,7 @@ use Rattle.raster.specs.Band.{bandWindow}
 use Rattle.raster.specs.Window.{sizeOut, frameConditions}
 use Rattle.raster.specs.declared.window.Window.{Window}
 use Rattle.raster.proofs.Frames.{Frame, size-in, frame, frame-met}
+use Rattle.raster.proofs.Placing.{sum-fits, sum-kept}
 use Rattle.line.specs.Line.{endsOut}
 use Rattle.line.specs.Drawing.{lineConditions}
 use Rattle.line.specs.declared.ends.Ends.{Ends}
@@ -61,6 +66,22 @@ module _ (w : Window) (N f n : ℕ) (frm : Frame w N) (b : Within w f n) where
   -- the band's bytes lie in the raster
   pub band-bytes : f * rowBytes (w .width) + n * rowBytes (w .width) ≤ N
   band-bytes = omega (arith, frm .shape .length-is, mul-le-mul-right (rowBytes (w .width)) (b .last))
+
+  -- the first row is below the height
+  pub first-small : f < w .height
+  first-small = omega (arith, b .some, b .last)
+
+  pub top-sum : SFits w32 (toZ w32 (ofZ w32 (w .top)) +ℤ toZ w32 f)
+  top-sum = sum-fits (w .top) (w .height) f (frm .place .top-in) (frm .place .bottom) first-small
+
+  -- the window as code makes it of signed numbers
+  pub window-made : _≡_ {A = Window}
+      (record { left = toZ w32 (ofZ w32 (w .left)); top = toZ w32 (ofZ w32 (toZ w32 (ofZ w32 (w .top)) +ℤ toZ w32 f)); width = w .width; height = n })
+      (bandWindow w f n)
+  window-made =
+      ap₂ (λ (l t : ℤ). record { left = l; top = t; width = w .width; height = n })
+      (toZ-ofZ w32 (w .left) (record { sfits = in-range-fits (w .left) (frm .place .left-in) }))
+      (sum-kept (w .top) (w .height) f (frm .place .top-in) (frm .place .bottom) first-small)
 
 -- ---- what is known where no condition is met
 

@@ -12,6 +12,7 @@ use Rattle.raster.specs.Drawn.{marks}
 use Rattle.raster.specs.declared.drawn.Marks.{Marks}
 use Rattle.raster.specs.declared.window.Window.{Window}
 use Rattle.line.specs.Line.{onLine}
+use Rattle.line.specs.Drawing.{lineCount}
 use Rattle.line.specs.declared.ends.Ends.{Ends}
 use Rattle.band.specs.Drawing.{bandCount}
 
@@ -32,6 +33,26 @@ lineOf list k =
 -- the pixel in a column and a row is one of theirs
 unfoldable pub onRecords : List ℤ → ℤ → ℤ → Bool
 onRecords list column row = any (recordCount list) (λ k. onLine (lineOf list k) column row)
+
+-- ---- drawn in a window
+
+-- the sum over the lines of their pixels in the window, an overlap counted each time
+unfoldable pub windowCount : List ℤ → Window → ℕ
+windowCount list w = sum (recordCount list) (λ k. lineCount (lineOf list k) w)
+
+-- how many pixels of them are unmarked at the start, an overlap counted once
+unfoldable pub windowFresh : List ℤ → Window → List ℕ → ℕ
+windowFresh list w s = freshCount w s (onRecords list)
+
+-- both counts
+abbrev pub windowMarks : List ℤ → Window → List ℕ → Marks
+windowMarks list w s = marks (windowCount list w) (windowFresh list w s)
+
+-- the raster after they are drawn: the start plus the pixels of all the lines
+unfoldable pub windowRaster : List ℤ → Window → List ℕ → List ℕ
+windowRaster list w s = plus w s (onRecords list)
+
+-- ---- drawn in a band
 
 -- the sum over the lines of their pixels in a band, an overlap counted each time
 unfoldable pub recordsCount : List ℤ → Window → ℕ → ℕ → ℕ

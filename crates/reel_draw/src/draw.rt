@@ -13,7 +13,7 @@ ghost use mathlib.Core.Bool.{false};
 ghost use Prim.Native.Nat.{_+_, _≤_, _<_};
 ghost use lib.ListN.{length};
 ghost use Rattle.refusal.specs.Refusal.{answer, checked, firstMet};
-ghost use Rattle.reel.specs.Reel.{coordinatesOut};
+ghost use Rattle.reel.specs.Reel.{coordinatesOut, coordinates};
 ghost use Rattle.reel.specs.Reading.{recordsIn};
 ghost use Rattle.reel_draw.specs.Records.{recordsMarks, recordsRaster};
 ghost use Rattle.reel_draw.specs.Drawing.{rowsConditions, frameAnswer, frameAfter, drawnFrame};
@@ -39,6 +39,24 @@ fn check_rows(window: Window, first: u32, rows: u32, length: usize) -> Check
     Check::Passed
 }
 
+// Marks the pixels of the records' lines in the band's rows, a part of the raster, with the window of these rows.
+fn draw_rows(bytes: &[u8], window: Window, first: u32, rows: u32, raster: &mut [u8]) -> Marks
+    requires { ⌜ (coordinatesOut (coordinates (now bytes)) ≡ false) × (length (now bytes) < 65537) × (firstMet (rowsConditions window (length (now raster)) first rows) ≡ 0) ⌝ }
+    ensures { λ r. ⌜ r ≡ recordsMarks (coordinates (now (bytes .entry))) window (now (raster .entry)) first rows ⌝ }
+    ensures { λ _. ⌜ now (raster .exit) ≡ recordsRaster (coordinates (now (bytes .entry))) window first rows (now (raster .entry)) ⌝ }
+{
+    let size = window.row_bytes();
+    let from = first as usize * size;
+    let end = from + rows as usize * size;
+    let band = Window {
+        left: window.left,
+        top: window.top + first as i32,
+        width: window.width,
+        height: rows,
+    };
+    draw_records(bytes, band, &mut raster[from..end])
+}
+
 // Marks the pixels of the lines of the records in a part of the file, in a band, and answers their counts.
 fn draw_part(
     file: &[u8],
@@ -54,7 +72,7 @@ fn draw_part(
 {
     let place = part.place as usize;
     let end = place + part.len as usize;
-    draw_records(&file[place..end], window, first, rows, raster)
+    draw_rows(&file[place..end], window, first, rows, raster)
 }
 
 // Marks the pixels of the lines of frame `frame`, counted from 0, in the band of `rows` rows from row `first` on, and answers their

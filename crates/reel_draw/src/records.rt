@@ -1,5 +1,5 @@
 // Drawing the lines of some records, read where they stand.
-use band::draw::draw_band;
+use line::draw::draw_single;
 use line::ends::Ends;
 use raster::drawn::Marks;
 use raster::window::Window;
@@ -10,8 +10,8 @@ ghost use Prim.Native.Nat.{_*_, _/_, _<_};
 ghost use lib.ListN.{length};
 ghost use Rattle.refusal.specs.Refusal.{firstMet};
 ghost use Rattle.reel.specs.Reel.{coordinatesOut, coordinates};
-ghost use Rattle.reel_draw.specs.Records.{lineOf, recordsMarks, recordsRaster};
-ghost use Rattle.reel_draw.specs.Drawing.{rowsConditions};
+ghost use Rattle.raster.specs.Window.{frameConditions};
+ghost use Rattle.reel_draw.specs.Records.{lineOf, windowMarks, windowRaster};
 
 // The line of record `k` in the bytes of some records.
 fn line_of(bytes: &[u8], k: usize) -> Ends
@@ -27,18 +27,18 @@ fn line_of(bytes: &[u8], k: usize) -> Ends
     }
 }
 
-// Marks the pixels of the records' lines in a band, and answers their sum over the lines and how many are new.
-pub fn draw_records(bytes: &[u8], window: Window, first: u32, rows: u32, raster: &mut [u8]) -> Marks
-    requires { ⌜ (coordinatesOut (coordinates (now bytes)) ≡ false) × (length (now bytes) < 65537) × (firstMet (rowsConditions window (length (now raster)) first rows) ≡ 0) ⌝ }
-    ensures { λ r. ⌜ r ≡ recordsMarks (coordinates (now (bytes .entry))) window (now (raster .entry)) first rows ⌝ }
-    ensures { λ _. ⌜ now (raster .exit) ≡ recordsRaster (coordinates (now (bytes .entry))) window first rows (now (raster .entry)) ⌝ }
+// Marks the pixels of the records' lines in a window, and answers their sum over the lines and how many are new.
+pub fn draw_records(bytes: &[u8], window: Window, raster: &mut [u8]) -> Marks
+    requires { ⌜ (coordinatesOut (coordinates (now bytes)) ≡ false) × (length (now bytes) < 65537) × (firstMet (frameConditions window (length (now raster))) ≡ 0) ⌝ }
+    ensures { λ r. ⌜ r ≡ windowMarks (coordinates (now (bytes .entry))) window (now (raster .entry)) ⌝ }
+    ensures { λ _. ⌜ now (raster .exit) ≡ windowRaster (coordinates (now (bytes .entry))) window (now (raster .entry)) ⌝ }
 {
     let records = bytes.len() / 8;
     let mut count: u64 = 0;
     let mut fresh: u64 = 0;
     let mut k = 0;
     while k < records {
-        let answer = draw_band(line_of(bytes, k), window, first, rows, raster);
+        let answer = draw_single(line_of(bytes, k), window, raster);
         let marks = answer.marks();
         count += marks.count;
         fresh += marks.fresh;

@@ -1,20 +1,12 @@
 -- The window of the band's rows, with their part of the raster, meets no condition, so the drawer draws there.
 use borrow.Author.Needs.{needs}
-use Prim.Native.Nat.{_+_, _-_, _*_, _≤_, _<_}
-use mathlib.Core.Path.{_≡_, ap₂}
+use Prim.Native.Nat.{_+_, _-_, _*_, _≤_}
+use mathlib.Core.Path.{_≡_}
 use native.Mathlib.Omega.{arith}
-use lib.IntN.{ℤ, _+ℤ_}
 use lib.ListN.{length}
-use mir.Syntax.{w32}
-use mir.Val.{toZ, ofZ}
-use mir.ValLaws.{toZ-ofZ}
-use Rattle.coordinate.proofs.Bias.{in-range-fits}
-use Rattle.raster.specs.Band.{bandWindow}
-use Rattle.raster.specs.declared.window.Window.{Window}
 use Rattle.raster.proofs.Frames.{Frame, raster-max}
 use Rattle.raster.proofs.Over.{Bytes}
-use Rattle.raster.proofs.Placing.{sum-fits, sum-kept}
-use Rattle.band.proofs.Limits.{Within, rows-passed, size-passed, frame-passed, band-bytes}
+use Rattle.band.proofs.Limits.{Within, rows-passed, size-passed, frame-passed, band-bytes, first-small, top-sum, window-made}
 use Rattle.band.proofs.Rows.{band-counted, band-drawn}
 use Rattle.band.proofs.draw.draw_rows.Statement.{statement}
 use Rattle.band.proofs.draw.draw_rows.Tie as tie
@@ -48,26 +40,15 @@ mul-end c = record { fits = omega (arith, bytes-in c) }
 add-end : tie.Need-add-end
 add-end c = record { fits = omega (arith, bytes-in c) }
 
--- the first row is below the height
-first-small : (s : tie.Start) → s .args .first < s .args .window .height
-first-small s = omega (arith, rows s .some, rows s .last)
-
 cast-t12 : tie.Need-cast-t12
-cast-t12 c = record { sfits = omega (arith, first-small (c .before .before), frm (c .before .before) .size .height-max) }
+cast-t12 c =
+    let s = c .before .before in
+    record { sfits = omega (arith, first-small (s .args .window) _ (s .args .first) (s .args .rows) (frm s) (rows s), frm s .size .height-max) }
 
 add-t13 : tie.Need-add-t13
 add-t13 c =
     let s = c .before .before .before .before in
-    sum-fits (s .args .window .top) (s .args .window .height) (s .args .first) (frm s .place .top-in) (frm s .place .bottom) (first-small s)
-
--- the window that the code makes
-window-is : (s : tie.Start)
-    → _≡_ {A = Window} (record { left = toZ w32 (ofZ w32 (s .args .window .left)); top = toZ w32 (ofZ w32 (toZ w32 (ofZ w32 (s .args .window .top)) +ℤ toZ w32 (s .args .first))); width = s .args .window .width; height = s .args .rows }) (bandWindow (s .args .window) (s .args .first) (s .args .rows))
-window-is s =
-    let w = s .args .window in
-    ap₂ (λ (l t : ℤ). record { left = l; top = t; width = w .width; height = s .args .rows })
-    (toZ-ofZ w32 (w .left) (record { sfits = in-range-fits (w .left) (frm s .place .left-in) }))
-    (sum-kept (w .top) (w .height) (s .args .first) (frm s .place .top-in) (frm s .place .bottom) (first-small s))
+    top-sum (s .args .window) _ (s .args .first) (s .args .rows) (frm s) (rows s)
 
 sub-draw-single : tie.Need-sub-draw-single
 sub-draw-single c = search needs
@@ -94,8 +75,8 @@ returns c =
     let size = sized .row-bytes .result in
     let length-is : f * size + a .rows * size - f * size ≡ a .rows * size = omega arith in
     let bytes : Bytes (a .raster .now) = λ i _. sized .before .slice-known .given i .fits in (
-      band-counted (a .ends) (a .window) (a .raster .now) f (a .rows) (s .pre) bytes _ size _ (window-is s) (sized .row-bytes .ensures) length-is _ (drawn .draw-single .ensures .0),
-      band-drawn (a .ends) (a .window) (a .raster .now) f (a .rows) (s .pre) bytes _ size _ (window-is s) (sized .row-bytes .ensures) length-is _ (drawn .draw-single .ensures .1),
+      band-counted (a .ends) (a .window) (a .raster .now) f (a .rows) (s .pre) bytes _ size _ (window-made (a .window) _ f (a .rows) (frm s) (rows s)) (sized .row-bytes .ensures) length-is _ (drawn .draw-single .ensures .0),
+      band-drawn (a .ends) (a .window) (a .raster .now) f (a .rows) (s .pre) bytes _ size _ (window-made (a .window) _ f (a .rows) (frm s) (rows s)) (sized .row-bytes .ensures) length-is _ (drawn .draw-single .ensures .1),
     )
 
 pub draw-rows-spec : {M : Type 1} → statement M

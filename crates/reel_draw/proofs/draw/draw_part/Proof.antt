@@ -16,17 +16,17 @@ cast-end c = search needs
 add-end : tie.Need-add-end
 add-end c = search needs
 
-sub-draw-records : tie.Need-sub-draw-records
-sub-draw-records c = search needs
+sub-draw-rows : tie.Need-sub-draw-rows
+sub-draw-rows c = search needs
 
-part-draw-records-start : tie.Need-part-draw-records-start
-part-draw-records-start c = search needs
+part-draw-rows-start : tie.Need-part-draw-rows-start
+part-draw-rows-start c = search needs
 
-part-draw-records-end : tie.Need-part-draw-records-end
-part-draw-records-end c = search needs
+part-draw-rows-end : tie.Need-part-draw-rows-end
+part-draw-rows-end c = search needs
 
-draw-records-requires : tie.Need-draw-records-requires
-draw-records-requires c κs =
+draw-rows-requires : tie.Need-draw-rows-requires
+draw-rows-requires c κs =
     let s = c .before .before .before .before .before .before in
     let a = s .args in (
       ap coordinatesOut (lent-records (a .file .now) (a .part)) ∙ s .pre .1,
@@ -39,7 +39,7 @@ same-length c = search needs
 
 returns : tie.Need-returns
 returns c =
-    let call = c .before .before .draw-records in
+    let call = c .before .before .draw-rows in
     let a = c .before .before .before .before .before .before .before .before .before .args in
     lent-drawn (a .file .now) (a .part) (a .window) (a .first) (a .rows) (a .raster .now) (call .result) _ (call .ensures .0) (call .ensures .1)
 
@@ -50,9 +50,9 @@ draw-part-spec =
     cast-place
     cast-end
     add-end
-    sub-draw-records
-    part-draw-records-start
-    part-draw-records-end
-    draw-records-requires
+    sub-draw-rows
+    part-draw-rows-start
+    part-draw-rows-end
+    draw-rows-requires
     same-length
     returns)

@@ -8,25 +8,25 @@ use Rattle.reel_draw.proofs.records.draw_records.Statement.{statement}
 use Rattle.reel_draw.proofs.records.draw_records.Tie as tie
 
 abbrev Inv-loop : tie.InvT-loop
-Inv-loop bytes window first rows raster₀ records count₀ fresh₀ k₀ raster count fresh k =
-    (k ≤ records) × Drew (coordinates bytes) window first rows raster₀ raster count fresh k
+Inv-loop bytes window raster₀ records count₀ fresh₀ k₀ raster count fresh k =
+    (k ≤ records) × Drew (coordinates bytes) window raster₀ raster count fresh k
 
 abbrev μ-loop : tie.MeasureT-loop
-μ-loop bytes window first rows raster₀ records count₀ fresh₀ k₀ raster count fresh k = records - k
+μ-loop bytes window raster₀ records count₀ fresh₀ k₀ raster count fresh k = records - k
 
 loop-holds : tie.Need-loop-holds Inv-loop μ-loop
 loop-holds c =
     let start = c .before .before in
     let a = start .args in (
       omega arith,
-      drew-none (coordinates (a .bytes .now)) (a .window) (a .first) (a .rows) (a .raster .now) (start .pre .2) (λ i _. c .slice-known .given i .fits),
+      drew-none (coordinates (a .bytes .now)) (a .window) (a .raster .now) (start .pre .2) (λ i _. c .slice-known .given i .fits),
     )
 
 line-of-requires : tie.Need-line-of-requires Inv-loop μ-loop
 line-of-requires c κs = search needs
 
-draw-band-requires : tie.Need-draw-band-requires Inv-loop μ-loop
-draw-band-requires c κs = search needs
+draw-single-requires : tie.Need-draw-single-requires Inv-loop μ-loop
+draw-single-requires c κs = search needs
 
 marks-requires : tie.Need-marks-requires Inv-loop μ-loop
 marks-requires c κs = search needs
@@ -42,13 +42,13 @@ module _ (c : tie.After-marks Inv-loop μ-loop) where
   abbrev start : tie.Start Inv-loop μ-loop
   start = at .before .before .before
 
-  drew : Drew (coordinates (start .args .bytes .now)) (start .args .window) (start .args .first) (start .args .rows) (start .args .raster .now)
-      (c .before .before .before .draw-band .last .1 .1 .1 .1 .0) (at .loop .count + c .marks .result .count) (at .loop .fresh + c .marks .result .fresh) (at .loop .k + 1)
+  drew : Drew (coordinates (start .args .bytes .now)) (start .args .window) (start .args .raster .now)
+      (c .before .before .before .draw-single .last .1 .1 .0) (at .loop .count + c .marks .result .count) (at .loop .fresh + c .marks .result .fresh) (at .loop .k + 1)
   drew =
       let a = start .args in
-      let call = c .before .before .before .draw-band in
+      let call = c .before .before .before .draw-single in
       let line = c .before .before .before .before .before .line-of in
-      drew-on (coordinates (a .bytes .now)) (a .window) (a .first) (a .rows) (a .raster .now) (start .pre .2) (start .pre .0)
+      drew-on (coordinates (a .bytes .now)) (a .window) (a .raster .now) (start .pre .2) (start .pre .0)
       (at .loop .raster) (at .loop .count) (at .loop .fresh) (at .loop .k) (at .loop .inv .1)
       (omega (arith, records-in-bytes (a .bytes .now), turn .loop-test .taken))
       (line .result) _ (c .marks .result) _ (line .ensures) (call .ensures .0) (c .marks .ensures) (call .ensures .1)
@@ -58,7 +58,7 @@ module _ (c : tie.After-marks Inv-loop μ-loop) where
   sums =
       let a = start .args in (
         omega (arith, drew .most, turn .loop-test .taken, start .pre .1),
-        fresh-most (coordinates (a .bytes .now)) (a .window) (a .first) (a .rows) (a .raster .now) (start .pre .2) _ _ _ _ drew,
+        fresh-most (coordinates (a .bytes .now)) (a .window) (a .raster .now) (start .pre .2) _ _ _ _ drew,
       )
 
 add-count : tie.Need-add-count Inv-loop μ-loop
@@ -79,13 +79,13 @@ loop-again c = (omega arith, drew (c .before .before))
 same-length : tie.Need-same-length Inv-loop μ-loop
 same-length c =
     let a = c .before .before .before .before .args in
-    drew-length (coordinates (a .bytes .now)) (a .window) (a .first) (a .rows) (a .raster .now) _ _ _ _ (c .before .loop .inv .1)
+    drew-length (coordinates (a .bytes .now)) (a .window) (a .raster .now) _ _ _ _ (c .before .loop .inv .1)
 
 returns : tie.Need-returns Inv-loop μ-loop
 returns c =
     let s = c .before .before .before .before in
     let a = s .args in
-    drew-all (coordinates (a .bytes .now)) (a .window) (a .first) (a .rows) (a .raster .now) (s .pre .2) _ _ _ _ (c .before .loop .inv .1)
+    drew-all (coordinates (a .bytes .now)) (a .window) (a .raster .now) (s .pre .2) _ _ _ _ (c .before .loop .inv .1)
     (omega (arith, records-in-bytes (a .bytes .now)))
 
 pub draw-records-spec : {M : Type 1} → statement M
@@ -96,7 +96,7 @@ draw-records-spec =
     μ-loop
     loop-holds
     line-of-requires
-    draw-band-requires
+    draw-single-requires
     marks-requires
     add-count
     add-fresh
