@@ -98,8 +98,8 @@ Frame {width} × {height}, {LINES} lines of a kind. Near-vertical and near-horiz
 side or further along it, and at most {LEAN} pixels across. Best of {ROUNDS} rounds; in each round every contestant runs once,
 one after the other. All write the same raster, which is cleared before each, outside the time, so caches are warm. The
 list is not cleared. Listers, painters of runs, searches, small windows and a reel's file do their work {REPEATS} times in a
-round, with no clearing between. The hand-written drawers index the raster untested. Every drawer and painter of the library counts the new
-pixels, those that were unmarked; what stands beside it does so where that is said.
+round, with no clearing between. The hand-written drawers index the raster untested. Every drawer and painter of the
+library counts the new pixels, those that were unmarked; what stands beside it does so where that is said.
 
 Checked before the timing: contestants with the same work leave equal bytes and answer equal counts. These are the
 drawers and bands in the frame, the listers, painter and memset, the searches, what is found, written and drawn of a reel's

@@ -6,7 +6,6 @@ use refusal::Check;
 use refusal::Refusal;
 ghost use mathlib.Core.Path.{_≡_};
 ghost use mathlib.Core.Bool.{false};
-ghost use lib.ListN.{length};
 ghost use Rattle.refusal.specs.Refusal.{answer, checked, firstMet};
 ghost use Rattle.reel.specs.Reel.{lastOf, falls, coordinatesOut};
 ghost use Rattle.reel.specs.Writing.{tooLong, tableOff, writeConditions};

@@ -5,7 +5,6 @@ use crate::number::word;
 ghost use mathlib.Core.Path.{_≡_};
 ghost use Prim.Native.Nat.{_+_, _*_, _≤_};
 ghost use lib.ListN.{length};
-ghost use Rattle.counting.specs.Count.{each};
 ghost use Rattle.reel.specs.Reel.{recordsBefore, falls, position, frames, numbersFrom};
 
 // The table's position in bytes, as the last bytes say it.
