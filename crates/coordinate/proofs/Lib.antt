@@ -1,3 +1,4 @@
 pub mod Difference
 pub mod Bias
 pub mod Shift
+pub mod Nearest

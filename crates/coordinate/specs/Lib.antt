@@ -1,1 +1,2 @@
 pub mod Coordinate
+pub mod Nearest

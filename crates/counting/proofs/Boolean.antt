@@ -1,9 +1,9 @@
 -- Facts about Bool that tests turn on: a test is taken apart into what it says, and put together again.
 use Prim.Native.Nat.{ℕ, _≤_, _<_}
-use mathlib.Core.Path.{_≡_, refl, sym, ap, _∙_}
+use mathlib.Core.Path.{_≡_, refl, sym, ap, _∙_, subst}
 use mathlib.Core.Bool.{Bool, true, false, _&&_, _||_}
 use mathlib.Core.Logic.{_⊎_, inl, inr}
-use lib.Dec.{ltb, eqb, leb}
+use lib.Dec.{T, ltb, eqb, leb}
 use native.Mathlib.Omega.{arith}
 use borrow.Author.Tests.{ltb-true, lt-ltb, eqb-true, eq-eqb, leb-true, le-leb}
 use Rattle.counting.specs.Count.{one}
@@ -18,6 +18,14 @@ clash t p q = let z : _≡_ {A = ℕ} 0 1 = ap one (sym p ∙ q) in omega arith
 pub never : (a : Bool) → (a ≡ true → ⊥) → a ≡ false
 never true f = absurd (f refl)
 never false f = refl
+
+-- a test as a type, for the library's laws that speak of tests so
+pub to-T : (t : Bool) → t ≡ true → T t
+to-T t e = subst T (sym e) tt
+
+pub of-T : (t : Bool) → T t → t ≡ true
+of-T true h = refl
+of-T false h = absurd h
 
 pub bool-iff : (a b : Bool) → (a ≡ true → b ≡ true) → (b ≡ true → a ≡ true) → a ≡ b
 bool-iff true b f g = sym (f refl)
