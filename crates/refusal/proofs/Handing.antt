@@ -7,7 +7,7 @@ use mathlib.Core.Logic.{_⊎_, inl, inr, ⊎-elim}
 use native.Mathlib.Omega.{arith}
 use Rattle.refusal.specs.Refusal.{Answer, given, refused, refusedAt, turnedAway, answer, unlessRefused, numberOf, number, place, isRefused, checked, firstMet}
 use Rattle.refusal.specs.declared.Refusal.{Refusal}
-use Rattle.refusal.specs.declared.Refusal.the-variants.{Ends, Size, Place, RasterLength, ListLength, Rows, RunCount, Run, Input, File, Table, Record}
+use Rattle.refusal.specs.declared.Refusal.the-variants.{Ends, Size, Place, RasterLength, ListLength, Rows, RunCount, Run, Input, File, Table, Record, NotFinite, PenRange}
 use Rattle.refusal.specs.declared.Check.{Check}
 use Rattle.refusal.specs.declared.Check.the-variants.{Passed, Refused}
 use Rattle.refusal.proofs.Conditions.{append-met}
@@ -33,6 +33,8 @@ turned Input = record { some = omega arith; few = omega arith; form = inl (refl,
 turned File = record { some = omega arith; few = omega arith; form = inl (refl, λ A. refl) }
 turned Table = record { some = omega arith; few = omega arith; form = inl (refl, λ A. refl) }
 turned Record = record { some = omega arith; few = omega arith; form = inl (refl, λ A. refl) }
+turned NotFinite = record { some = omega arith; few = omega arith; form = inl (refl, λ A. refl) }
+turned PenRange = record { some = omega arith; few = omega arith; form = inl (refl, λ A. refl) }
 
 -- the same answer with another value in the place of a given one
 instead : {A B : Type 0} → B → Answer A → Answer B

@@ -4,7 +4,7 @@ use Prim.Native.Nat.{ℕ, zero, suc}
 use mathlib.Core.Bool.{Bool, true, false, cond}
 use mathlib.Core.List.{List, [], _∷_}
 use Rattle.refusal.specs.declared.Refusal.{Refusal}
-use Rattle.refusal.specs.declared.Refusal.the-variants.{Ends, Size, Place, RasterLength, ListLength, Rows, RunCount, Run, Input, File, Table, Record}
+use Rattle.refusal.specs.declared.Refusal.the-variants.{Ends, Size, Place, RasterLength, ListLength, Rows, RunCount, Run, Input, File, Table, Record, NotFinite, PenRange}
 use Rattle.refusal.specs.declared.Check.{Check}
 use Rattle.refusal.specs.declared.Check.the-variants.{Passed, Refused}
 
@@ -28,6 +28,8 @@ turnedAway Input = refused 9
 turnedAway File = refused 10
 turnedAway Table = refused 11
 turnedAway Record = refused 12
+turnedAway NotFinite = refused 13
+turnedAway PenRange = refused 14
 
 -- what a check answers: nothing, or the refusal
 abbrev pub checked : Check → Answer Unit

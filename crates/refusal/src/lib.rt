@@ -29,6 +29,10 @@ pub enum Refusal {
     Table,
     // 12: a coordinate of a record is out of range.
     Record,
+    // 13: a float of a touching pen's point is infinite or not a number.
+    NotFinite,
+    // 14: a rounded coordinate of a touching pen's point is out of range.
+    PenRange,
 }
 
 impl Refusal {
@@ -49,6 +53,8 @@ impl Refusal {
             Refusal::File => 10,
             Refusal::Table => 11,
             Refusal::Record => 12,
+            Refusal::NotFinite => 13,
+            Refusal::PenRange => 14,
         }
     }
 
@@ -69,6 +75,8 @@ impl Refusal {
             Refusal::File => 0,
             Refusal::Table => 0,
             Refusal::Record => 0,
+            Refusal::NotFinite => 0,
+            Refusal::PenRange => 0,
         }
     }
 }

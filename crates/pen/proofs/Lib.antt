@@ -1,0 +1,9 @@
+pub mod Compare
+pub mod Fraction
+pub mod Whole
+pub mod Nearest
+pub mod Range
+pub mod Finite
+pub mod Conditions
+pub mod PixelFacts
+pub mod Known

@@ -1,0 +1,4 @@
+pub mod Worth
+pub mod Touching
+pub mod PixelFacts
+pub mod Known
