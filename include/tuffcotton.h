@@ -1,10 +1,10 @@
 /* Tuffcotton: the scratch-mask library of a film scanner's panel, for programs in C.
  *
- * Link target/staticlib/libcapi.a, which `rt staticlib capi` writes. Every function takes every number: it answers, or it
- * refuses with a number of document 01's list, and then no buffer has changed. The buffers are the caller's: a function reads
- * or writes the given number of elements and no others, keeps no pointer after it has returned, and has no memory of its own
- * but its stack (tc_lineruns about 60 KB). A pointer is never NULL, also where its length is 0, and a buffer that is written
- * does not overlap another.
+ * Link target/staticlib/libcapi.a, which `rt staticlib capi` writes. It calls memset and fmodf of the C library; the second may
+ * need -lm. Every function takes every number: it answers, or it refuses with a number of document 01's list, which document 02
+ * goes on with, and then no buffer has changed. The buffers are the caller's: a function reads or writes the given number of
+ * elements and no others, keeps no pointer after it has returned, and has no memory of its own but its stack (tc_lineruns about
+ * 60 KB). A pointer is never NULL, also where its length is 0, and a buffer that is written does not overlap another.
  *
  * Columns grow rightwards, rows downwards; a coordinate is from -16384 to 16383. A raster has one bit a pixel, rows from the
  * top, each of (width + 7) / 8 bytes, the leftmost pixel of a byte worth 128; bits past the width are padding, never changed
@@ -16,7 +16,8 @@
  * below the height; 7 three times the count of runs is more than the list's length; 8 a run has no pixel, or one out of the
  * coordinate range; 9 the input of lineruns is not one line of four numbers; 10 a reel's file is under 12 or over 65536 bytes
  * or lacks the letters, or would be longer; 11 its table falls, or table, position and lengths do not fit together; 12 a
- * record's coordinate is out of range. They are tested in the order of the numbers. */
+ * record's coordinate is out of range; 13 a float of a touching pen is infinite or not a number; 14 a rounded coordinate of a
+ * touching pen is out of range. They are tested in the order of the numbers. */
 #ifndef TUFFCOTTON_H
 #define TUFFCOTTON_H
 
@@ -56,6 +57,10 @@ typedef struct { uint32_t refused, found; uint32_t place, len; } tc_frame;
  * their pixels, an overlap counted each time; how many of these pixels were unmarked at the call, an overlap counted once. Both
  * counts are 0 where refused or not found. */
 typedef struct { uint32_t refused, found; uint64_t count, fresh; } tc_frame_drawn;
+
+/* What a report of the pen is answered with: 0 or the refusal's number; 1 where the pen touches a pixel, else 0; its column and
+ * row, 0 where refused or not touching. */
+typedef struct { uint32_t refused, touching; int32_t column, row; } tc_pixel;
 
 /* Whether a window is within the limits: 0, or 2 or 3. */
 uint32_t tc_window_check(int32_t left, int32_t top, uint32_t width, uint32_t height);
@@ -105,6 +110,11 @@ uint32_t tc_reel_write(const int32_t *list, size_t n, const uint32_t *table, siz
  * changes. Refuses 2, 3, 4, 6, 10, 11, 12. */
 tc_frame_drawn tc_reel_draw(const uint8_t *file, size_t len, uint32_t frame, tc_window window, uint32_t first, uint32_t rows,
                             uint8_t *raster, size_t raster_len);
+
+/* The pixel that the pen touches. `kind` is 0 for a pen that touches, 1 for one that hovers, any other for one that is lifted;
+ * column and row are in pixels with a fraction. Each becomes the nearest whole number, a half the larger: 0.49999997, -0.5 and -0
+ * give 0. A pen that does not touch is never refused, whatever its floats. Refuses 13 of either float, then 14 of either. */
+tc_pixel tc_pen(uint32_t kind, float column, float row);
 
 /* Writes what the program lineruns prints for its input, and answers the number of bytes written. Where room is under 110000
  * it writes nothing and answers 0; no printed text is longer. */
