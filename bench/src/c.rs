@@ -76,6 +76,14 @@ struct FrameDrawn {
     fresh: u64,
 }
 
+#[repr(C)]
+struct Pixel {
+    refused: u32,
+    touching: u32,
+    column: i32,
+    row: i32,
+}
+
 extern "C" {
     fn tc_draw_single(ends: Ends, window: Window, raster: *mut u8, len: usize) -> Drawn;
     fn tc_draw_double(ends: Ends, window: Window, raster: *mut u8, len: usize) -> Drawn;
@@ -103,6 +111,7 @@ extern "C" {
         raster: *mut u8,
         raster_len: usize,
     ) -> FrameDrawn;
+    fn tc_pen(kind: u32, column: f32, row: f32) -> Pixel;
     fn memchr(bytes: *const c_void, byte: c_int, len: usize) -> *const c_void;
 }
 
@@ -171,6 +180,12 @@ pub fn reel_draw(file: &[u8], window: Window, raster: &mut [u8]) -> Marks {
         count: drawn.count,
         fresh: drawn.fresh,
     }
+}
+
+/// The pixel that a touching pen touches.
+pub fn pen(column: f32, row: f32) -> Option<(i32, i32)> {
+    let pixel = unsafe { tc_pen(0, column, row) };
+    (pixel.touching != 0).then_some((pixel.column, pixel.row))
 }
 
 /// The place of the first byte that equals `byte`.

@@ -7,6 +7,7 @@ mod commit;
 mod drawers;
 mod lines;
 mod outside;
+mod pen;
 mod reel;
 mod runs;
 mod search;
@@ -18,6 +19,7 @@ use clock::{Buffers, Clock, REPEATS};
 use drawers::Drawers;
 use lines::{Kind, FAR, FRAME, KINDS, LEAN, LINES};
 use outside::{Outside, LARGE, SMALL};
+use pen::Pen;
 use reel::{Marked, Reel};
 use runs::{Listed, Lister};
 use search::Search;
@@ -36,6 +38,7 @@ struct Work {
     spans: [Vec<i32>; LENGTHS.len()],
     longest: Marked,
     frame: Marked,
+    points: Vec<(f32, f32)>,
 }
 
 impl Work {
@@ -49,6 +52,7 @@ impl Work {
             short: lines::short(),
             from_outside: KINDS.map(lines::from_outside),
             spans: LENGTHS.map(lines::spans),
+            points: pen::points(),
         }
     }
 
@@ -82,6 +86,7 @@ impl Work {
         }
         check::search(buffers);
         self.frame.check(self.marked(), buffers);
+        pen::check(&self.points);
         for lines in &self.from_outside {
             check::outside(lines, SMALL, buffers);
             check::outside(lines, LARGE, buffers);
@@ -97,13 +102,13 @@ fn print_head() {
 Frame {width} × {height}, {LINES} lines of a kind. Near-vertical and near-horizontal lines go a quarter of the frame's
 side or further along it, and at most {LEAN} pixels across. Best of {ROUNDS} rounds; in each round every contestant runs once,
 one after the other. All write the same raster, which is cleared before each, outside the time, so caches are warm. The
-list is not cleared. Listers, painters of runs, searches, small windows and a reel's file do their work {REPEATS} times in a
-round, with no clearing between. The hand-written drawers index the raster untested. Every drawer and painter of the
+list is not cleared. Listers, painters of runs, searches, small windows, a reel's file and the pen do their work {REPEATS}
+times in a round, with no clearing between. The hand-written drawers index the raster untested. Every drawer and painter of the
 library counts the new pixels, those that were unmarked; what stands beside it does so where that is said.
 
 Checked before the timing: contestants with the same work leave equal bytes and answer equal counts. These are the
 drawers and bands in the frame, the listers, painter and memset, the searches, what is found, written and drawn of a reel's
-file, and single step and hand-written drawer on lines from outside.
+file, the pens, and single step and hand-written drawer on lines from outside.
 ",
         commit = commit::name()
     );
@@ -138,6 +143,7 @@ fn main() {
     let spans = Spans::enter(&mut clock, &work.spans);
     let search = Search::enter(&mut clock);
     let reel = Reel::enter(&mut clock, &work.longest, &work.frame, work.marked());
+    let pen = Pen::enter(&mut clock, &work.points);
     let outside = Outside::enter(&mut clock, &work.from_outside, &mut buffers.raster);
     clock.run(ROUNDS, &mut buffers);
 
@@ -148,5 +154,6 @@ fn main() {
     rows.extend(spans.rows(&clock));
     rows.extend(search.rows(&clock));
     rows.extend(reel.rows(&clock));
+    rows.extend(pen.rows(&clock));
     print!("What is asked:\n\n{}", table::asked(rows));
 }

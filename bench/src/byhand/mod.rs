@@ -3,4 +3,5 @@ pub mod bytes;
 pub mod draw;
 pub mod line;
 pub mod list;
+pub mod pen;
 pub mod reel;
