@@ -4,7 +4,7 @@ use Prim.Native.Nat.{ℕ, _+_, _*_, _/_, _≤_, _<_}
 use mathlib.Core.Path.{_≡_}
 use mathlib.Core.Logic.{_↔_, _⊎_}
 use mathlib.Core.Bool.{true, false}
-use lib.IntN.{ℤ, pos, _-ℤ_, _*ℤ_}
+use lib.IntN.{pos, _-ℤ_, _*ℤ_}
 use lib.Signed.{ltZ}
 use Rattle.coordinate.specs.Coordinate.{apart}
 use Rattle.interpolation.specs.Interpolation.{m}
