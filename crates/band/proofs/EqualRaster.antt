@@ -17,13 +17,13 @@ use Rattle.raster.proofs.StartPlus.{start-plus}
 use Rattle.runs.specs.Painting.{paintAnswer, paintAfter}
 use Rattle.interpolation.proofs.Facts.{half-pixel}
 use Rattle.line.specs.Line.{short, axis, distance, onLine}
-use Rattle.line.specs.Listing.{listConditions, lineList, listAfter}
 use Rattle.line.specs.Drawing.{lineConditions, lineFresh, lineMarks, lineRaster}
 use Rattle.line.specs.declared.ends.Ends.{Ends}
-use Rattle.line.proofs.Drawn.{frame-in}
+use Rattle.line.proofs.Conditions.{frame-in}
 use Rattle.line.proofs.Pixels.{short-le, rounding}
-use Rattle.line.proofs.RunPixels.{lengths}
-use Rattle.line.proofs.RunFacts.{runs-are-line, listed-and-painted}
+use Rattle.line_list.specs.Listing.{listConditions, lineList, listAfter}
+use Rattle.line_list.proofs.RunPixels.{lengths}
+use Rattle.line_list.proofs.RunFacts.{runs-are-line, listed-and-painted}
 use Rattle.band.specs.Calls.{Band, afterBands, freshCalls, EveryRow}
 use Rattle.band.specs.EqualRaster.{EqualRaster}
 use Rattle.band.proofs.CallLaws.{call-answer, bands-after, bands-fresh, bands-lawful, once-every}

@@ -25,7 +25,7 @@ use Rattle.raster.proofs.Placing.{sum-fits, sum-kept}
 use Rattle.line.specs.Line.{endsOut}
 use Rattle.line.specs.Drawing.{lineConditions}
 use Rattle.line.specs.declared.ends.Ends.{Ends}
-use Rattle.line.proofs.Drawn.{line-numbered, ends-in, frame-in}
+use Rattle.line.proofs.Conditions.{line-numbered, ends-in, frame-in}
 use Rattle.band.specs.Drawing.{bandOut, bandConditions}
 
 -- the rows of a band that doesn't meet 6

@@ -17,11 +17,11 @@ use Rattle.raster.specs.declared.window.Window.{Window}
 use Rattle.runs.specs.Run.{runList}
 use Rattle.runs.specs.Painting.{paintAnswer}
 use Rattle.line.specs.Line.{long, short, axis, distance, onLine}
-use Rattle.line.specs.Runs.{pixelsOf, runs}
-use Rattle.line.specs.RunFacts.{RunsAreLine}
-use Rattle.line.specs.Listing.{listAnswer}
 use Rattle.line.specs.Drawing.{lineMarks, drawAnswer}
 use Rattle.line.specs.declared.ends.Ends.{Ends}
+use Rattle.line_list.specs.Runs.{pixelsOf, runs}
+use Rattle.line_list.specs.RunFacts.{RunsAreLine}
+use Rattle.line_list.specs.Listing.{listAnswer}
 use Rattle.band.specs.Drawing.{bandMarks, bandAnswer}
 use Rattle.band.specs.Calls.{Band, afterBands, freshCalls, meets6, bandsOf, EveryRow, EachRowOnce}
 

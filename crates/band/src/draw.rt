@@ -1,7 +1,7 @@
 // The band drawer.
-use line::draw::check_line;
-use line::draw::draw_single;
 use line::ends::Ends;
+use line_draw::draw::check_line;
+use line_draw::draw::draw_single;
 use raster::drawn::Drawn;
 use raster::window::Window;
 use refusal::Check;

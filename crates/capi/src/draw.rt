@@ -2,9 +2,9 @@
 use crate::answers::TcDrawn;
 use crate::answers::drawn_numbers;
 use band::draw::draw_band;
-use line::draw::draw_double;
-use line::draw::draw_single;
 use line::ends::Ends;
+use line_draw::draw::draw_double;
+use line_draw::draw::draw_single;
 use raster::window::Window;
 ghost use mathlib.Core.Path.{_≡_};
 ghost use Rattle.line.specs.Drawing.{drawAnswer, drawAfter};
@@ -12,7 +12,7 @@ ghost use Rattle.band.specs.Drawing.{bandAnswer, bandAfter};
 ghost use Rattle.capi.specs.Answers.{drawnNumbers};
 
 // Marks the line's pixels in the window and answers how many they are and how many of them are new, as
-// `line::draw::draw_single` does.
+// `line_draw::draw::draw_single` does.
 #[no_mangle]
 pub extern "C" fn tc_draw_single(ends: Ends, window: Window, raster: &mut [u8]) -> TcDrawn
     ensures { λ r. ⌜ r ≡ drawnNumbers (drawAnswer ends window (now (raster .entry))) ⌝ }
@@ -21,7 +21,7 @@ pub extern "C" fn tc_draw_single(ends: Ends, window: Window, raster: &mut [u8]) 
     drawn_numbers(draw_single(ends, window, raster))
 }
 
-// The same by double steps, as `line::draw::draw_double` does.
+// The same by double steps, as `line_draw::draw::draw_double` does.
 #[no_mangle]
 pub extern "C" fn tc_draw_double(ends: Ends, window: Window, raster: &mut [u8]) -> TcDrawn
     ensures { λ r. ⌜ r ≡ drawnNumbers (drawAnswer ends window (now (raster .entry))) ⌝ }

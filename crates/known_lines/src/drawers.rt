@@ -2,11 +2,11 @@
 use crate::second;
 use band::draw::draw_band;
 use coordinate::Coordinate;
-use line::draw::draw_double;
-use line::draw::draw_single;
 use line::ends::Ends;
-use line::list::Listed;
-use line::list::list_runs;
+use line_draw::draw::draw_double;
+use line_draw::draw::draw_single;
+use line_list::list::Listed;
+use line_list::list::list_runs;
 use raster::drawn::Drawn;
 use raster::drawn::Marks;
 use raster::window::Window;

@@ -9,11 +9,11 @@ use crate::print::print_pixel;
 use crate::print::print_signed;
 use crate::print::print_window;
 use coordinate::Axis;
-use line::draw::draw_double;
-use line::draw::draw_single;
 use line::ends::Ends;
-use line::list::Listed;
-use line::list::list_runs;
+use line_draw::draw::draw_double;
+use line_draw::draw::draw_single;
+use line_list::list::Listed;
+use line_list::list::list_runs;
 use raster::drawn::Drawn;
 use raster::window::Window;
 

@@ -1,14 +1,2 @@
-pub mod Known
 pub mod Pixels
-pub mod Intervals
-pub mod Turns
-pub mod Stepping
-pub mod Marking
-pub mod Pairing
-pub mod DoubleStep
-pub mod Whole
-pub mod Drawn
-pub mod Listing
-pub mod RunPixels
-pub mod RunFacts
-pub mod ListAnswer
+pub mod Conditions

@@ -1,10 +1,3 @@
 pub mod Line
-pub mod Runs
 pub mod Drawing
-pub mod Listing
-pub mod Lister
-pub mod RunFacts
-pub mod Walk
-pub mod Visible
-pub mod Pairs
-pub mod Known
+pub mod Trace

@@ -5,7 +5,7 @@ ghost use mathlib.Core.Path.{_≡_};
 ghost use mathlib.Core.Bool.{false};
 ghost use Prim.Native.Nat.{_+_, _-_, _<_};
 ghost use Rattle.line.specs.Line.{endsOut};
-ghost use Rattle.line.specs.Walk.{Traced};
+ghost use Rattle.line.specs.Trace.{Traced};
 
 // A line: its ends; the column and row of the first, counted from the lowest coordinate; L and S; what its halves are
 // rounded by; whether its long axis is y; and whether its columns and rows grow towards the second end.

@@ -23,15 +23,15 @@ use Rattle.refusal.proofs.Conditions.{none-met}
 use Rattle.refusal.proofs.Handing.{turned, number-is, number-answer}
 use Rattle.runs.specs.Painting.{runAt, runBad}
 use Rattle.line.specs.Line.{short, axis, endsOut}
-use Rattle.line.specs.Runs.{run, runs}
-use Rattle.line.specs.Listing.{listConditions, lineList, listed}
-use Rattle.line.specs.RunFacts.{listThen}
 use Rattle.line.specs.declared.ends.Ends.{Ends}
-use Rattle.line.specs.declared.list.Listing.{Listing}
-use Rattle.line.specs.declared.list.Listed.{Listed}
-use Rattle.line.specs.declared.list.Listed.the-variants.{Runs, Refused}
-use Rattle.line.proofs.ListAnswer.{listing-met, listing-axis, listing-runs}
-use Rattle.line.proofs.RunFacts.{read-back, none-bad}
+use Rattle.line_list.specs.Runs.{run, runs}
+use Rattle.line_list.specs.Listing.{listConditions, lineList, listed}
+use Rattle.line_list.specs.RunFacts.{listThen}
+use Rattle.line_list.specs.declared.list.Listing.{Listing}
+use Rattle.line_list.specs.declared.list.Listed.{Listed}
+use Rattle.line_list.specs.declared.list.Listed.the-variants.{Runs, Refused}
+use Rattle.line_list.proofs.ListAnswer.{listing-met, listing-axis, listing-runs}
+use Rattle.line_list.proofs.RunFacts.{read-back, none-bad}
 use Rattle.lineruns_text.specs.Writing.{axisText, axisLine, refusedLine, runLines, printConditions, told, answerTo, printed}
 use Rattle.lineruns_text.specs.Reading.{lineOf}
 use Rattle.buffer.specs.Written.{written, Wrote}

@@ -6,7 +6,7 @@ use Rattle.coordinate.specs.Coordinate.{outOfRange}
 use Rattle.refusal.specs.Refusal.{firstMet}
 use Rattle.interpolation.specs.Runs.{runFirst, runPixels}
 use Rattle.line.specs.Line.{endsOut, short, axis}
-use Rattle.line.specs.Runs.{runs}
+use Rattle.line_list.specs.Runs.{runs}
 use Rattle.lineruns_text.specs.Writing.{printed}
 
 pub five-lines :

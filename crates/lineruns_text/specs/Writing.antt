@@ -9,8 +9,8 @@ use Rattle.coordinate.specs.Coordinate.{along}
 use Rattle.refusal.specs.Refusal.{firstMet}
 use Rattle.runs.specs.Run.{Run}
 use Rattle.line.specs.Line.{short, axis, endsConditions}
-use Rattle.line.specs.Runs.{runs}
 use Rattle.line.specs.declared.ends.Ends.{Ends}
+use Rattle.line_list.specs.Runs.{runs}
 use Rattle.lineruns_text.specs.Reading.{lineOf}
 
 -- a number in decimal, without leading zeros; at most n + 1 digits are asked of `decimalUpTo n`

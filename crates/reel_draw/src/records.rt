@@ -1,6 +1,6 @@
 // Drawing the lines of some records, read where they stand.
-use line::draw::draw_single;
 use line::ends::Ends;
+use line_draw::draw::draw_single;
 use raster::drawn::Marks;
 use raster::window::Window;
 use reel::coordinates::coordinate_at;

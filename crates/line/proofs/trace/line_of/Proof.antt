@@ -13,7 +13,7 @@ use Rattle.coordinate.specs.Coordinate.{outOfRange, apart, biased}
 use Rattle.coordinate.proofs.Difference.{diff-lt, diff-nlt}
 use Rattle.coordinate.proofs.Bias.{diff-biased}
 use Rattle.line.specs.Line.{long, short, offset, axis, endsOut}
-use Rattle.line.specs.Walk.{Traced}
+use Rattle.line.specs.Trace.{Traced}
 use Rattle.line.specs.declared.ends.Ends.{Ends}
 use Rattle.line.specs.declared.trace.Line.{Line}
 use Rattle.line.proofs.Pixels.{ended, apart-biased}

@@ -7,8 +7,8 @@ use lib.ListN.{length, replicate, length-replicate}
 use Rattle.coordinate.specs.declared.Axis.{Axis}
 use Rattle.refusal.specs.Refusal.{answer, unlessRefused, firstMet}
 use Rattle.line.specs.Line.{short, axis}
-use Rattle.line.specs.Listing.{listConditions, lineList, listed}
 use Rattle.line.specs.declared.ends.Ends.{Ends}
+use Rattle.line_list.specs.Listing.{listConditions, lineList, listed}
 use native.Mathlib.Omega.{arith}
 use Rattle.refusal.proofs.Handing.{turned}
 use Rattle.lineruns_text.proofs.Lines.{refused-line-length}

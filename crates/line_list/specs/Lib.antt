@@ -1,0 +1,5 @@
+pub mod Runs
+pub mod Listing
+pub mod Lister
+pub mod RunFacts
+pub mod Known
