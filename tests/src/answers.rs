@@ -1,7 +1,8 @@
 //! How the C interface states the answers of documents 01 and 02.
-use crate::c::{Drawn, Found, Frame, FrameDrawn, Listed, Part};
+use crate::c::{self, Drawn, Found, Frame, FrameDrawn, Listed, Part};
 use paper::frame::Pixel;
 use paper::line::Axis;
+use paper::pen::{Point, Report};
 use paper::raster::Marks;
 use paper::reel::read::Place;
 use paper::refusal::Refusal;
@@ -22,6 +23,15 @@ pub fn axis_number(axis: Axis) -> u32 {
     match axis {
         Axis::X => 0,
         Axis::Y => 1,
+    }
+}
+
+/// The report that a number names: 0 is touching, 1 is hovering, any other is lifted.
+pub fn report_named(number: u32, point: Point) -> Report {
+    match number {
+        0 => Report::Touching(point),
+        1 => Report::Hovering(point),
+        _ => Report::Lifted,
     }
 }
 
@@ -69,6 +79,22 @@ impl From<Result<Option<Pixel>, Refusal>> for Found {
         Found {
             refused,
             found,
+            column,
+            row,
+        }
+    }
+}
+
+impl From<Result<Option<Pixel>, Refusal>> for c::Pixel {
+    fn from(answer: Result<Option<Pixel>, Refusal>) -> c::Pixel {
+        let (refused, touching, column, row) = match answer {
+            Ok(Some(pixel)) => (0, 1, pixel.column, pixel.row),
+            Ok(None) => (0, 0, 0, 0),
+            Err(refusal) => (refusal.number, 0, 0, 0),
+        };
+        c::Pixel {
+            refused,
+            touching,
             column,
             row,
         }

@@ -48,6 +48,16 @@ pub struct Found {
     pub row: i32,
 }
 
+/// `touching` is 0 where the pen isn't touching and where refused; `column` and `row` are 0 then.
+#[repr(C)]
+#[derive(Clone, Copy, Debug, PartialEq)]
+pub struct Pixel {
+    pub refused: u32,
+    pub touching: u32,
+    pub column: i32,
+    pub row: i32,
+}
+
 /// 0 and 0 for the empty part.
 #[repr(C)]
 #[derive(Clone, Copy, Debug, PartialEq)]
@@ -121,6 +131,7 @@ extern "C" {
         raster: *mut u8,
         raster_len: usize,
     ) -> FrameDrawn;
+    fn tc_pen(kind: u32, column: f32, row: f32) -> Pixel;
 }
 
 pub fn window_check(w: Window) -> u32 {
@@ -200,6 +211,10 @@ pub fn reel_draw(
     let (place, len) = (raster.as_mut_ptr(), raster.len());
     let window = window.into();
     unsafe { tc_reel_draw(bytes, file_len, frame, window, first, rows, place, len) }
+}
+
+pub fn pen(kind: u32, column: f32, row: f32) -> Pixel {
+    unsafe { tc_pen(kind, column, row) }
 }
 
 impl From<Ends> for TcEnds {

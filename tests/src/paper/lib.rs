@@ -5,6 +5,7 @@
 pub mod draw;
 pub mod frame;
 pub mod line;
+pub mod pen;
 pub mod raster;
 pub mod reel;
 pub mod refusal;

@@ -3,6 +3,7 @@ pub mod bands;
 pub mod hostile;
 pub mod largest;
 pub mod lines;
+pub mod pen;
 pub mod reel;
 pub mod rows;
 pub mod square;
