@@ -21,10 +21,10 @@ returns : tie.Need-returns
 returns c = c .touched-at .ensures ∙ sym (ap touchAnswer (c .before .before .report .given .1))
 
 returns-2 : tie.Need-returns-2
-returns-2 c = search needs
+returns-2 c = sym (ap touchAnswer (c .enum-told .given .1))
 
 returns-3 : tie.Need-returns-3
-returns-3 c = search needs
+returns-3 c = sym (ap touchAnswer (c .enum-told2 .given .1))
 
 pub touched-spec : {M : Type 1} → statement M
 touched-spec =
