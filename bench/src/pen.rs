@@ -31,8 +31,8 @@ pub struct Pen {
 impl Pen {
     pub fn enter<'a>(clock: &mut Clock<'a>, points: &'a [Point]) -> Pen {
         let sum = |pixel: fn(f32, f32) -> Option<(i32, i32)>| {
-            let worth = move |&(column, row): &Point| pixel(column, row).map_or(0, |(x, y)| (x + y) as u64);
-            move || points.iter().map(worth).sum()
+            let sum_of = move |&(column, row): &Point| pixel(column, row).map_or(0, |(x, y)| (x + y) as u64);
+            move || points.iter().map(sum_of).sum()
         };
         let (library, by_hand) = (sum(c::pen), sum(byhand::pen::pixel));
         Pen {

@@ -5,5 +5,5 @@ pub mod Nearest
 pub mod Range
 pub mod Finite
 pub mod Conditions
-pub mod PixelFacts
+pub mod PenFacts
 pub mod Known

@@ -1,5 +1,5 @@
--- The whole part and the fraction, both with the sign of x, give the nearest whole number: the fraction is held against −1/2 and
--- 1/2, over natural numbers.
+-- The whole part of x and its fraction, which has the sign of x, give the nearest whole number: the fraction is held against −1/2
+-- and 1/2, over natural numbers.
 use Prim.Native.Nat.{ℕ, _+_, _*_, _/_, _%_, _^_, _≤_, _<_}
 use mathlib.Core.Path.{_≡_, sym, ap, _∙_, subst}
 use mathlib.Core.Bool.{Bool, true, false, true≢false}

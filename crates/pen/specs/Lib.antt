@@ -1,4 +1,4 @@
 pub mod Worth
 pub mod Touching
-pub mod PixelFacts
+pub mod PenFacts
 pub mod Known

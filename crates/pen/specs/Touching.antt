@@ -14,7 +14,7 @@ use Rattle.pen.specs.declared.report.Report.the-variants.{Touching, Hove
 use Rattle.pen.specs.declared.report.Touched.{Touched}
 use Rattle.pen.specs.declared.report.Touched.the-variants.{At, NotTouching, Refused}
 
--- 13: a float is infinite or not a number
+-- 13: a float is infinite or not a number; `finite` is false for an infinity and a NaN, and true for every other float
 unfoldable pub notFinite : Point → Bool
 notFinite p = not (finite (p .column)) || not (finite (p .row))
 

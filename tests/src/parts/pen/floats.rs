@@ -4,7 +4,7 @@ use crate::random::Random;
 pub const SIGN: u32 = 0x8000_0000;
 
 /// Sizes at which something changes: subnormals, the smallest normal float, halves and whole numbers, the range's ends, where
-/// floats have no more halves and no more fractions, where integers of 16, 32 and 64 bits end, the largest float, infinity.
+/// floats have no more quarters and no more halves, where integers of 16, 32 and 64 bits end, the largest float, infinity.
 const SIZES: [f32; 31] = [
     0.0,
     f32::from_bits(0x0040_0000),
@@ -72,8 +72,8 @@ pub fn around(float: f32, reach: i32) -> impl Iterator<Item = u32> {
 
 /// The sizes with their neighbours and the NaNs, all with both signs.
 pub fn special() -> Vec<u32> {
-    let finite = SIZES.iter().flat_map(|size| around(*size, 1));
-    finite
+    let sizes = SIZES.iter().flat_map(|size| around(*size, 1));
+    sizes
         .chain(NANS)
         .flat_map(|float| [float & !SIGN, float | SIGN])
         .collect()

@@ -1,6 +1,9 @@
--- An answered pixel has passed both tests, so it is the nearest one, and the nearest is the only one within half a pixel.
-use Prim.Native.Nat.{_<_}
-use mathlib.Core.Path.{_≡_, sym, ap, _∙_}
+-- An answered pixel has passed both tests, so it is the nearest one, and the nearest is the only one within half a pixel. Where
+-- no pixel is so near, the tests have failed.
+use Prim.Native.Nat.{ℕ, suc, _<_}
+use mathlib.Core.Path.{_≡_, refl, sym, ap, _∙_}
+use mathlib.Core.Logic.{⊎-elim}
+use mathlib.Core.List.{[], _∷_}
 use mathlib.Core.Bool.{true, false}
 use mathlib.Core.Option.{Option, none, some}
 use lib.IntN.{ℤ}
@@ -12,14 +15,16 @@ use Rattle.coordinate.specs.Coordinate.{outOfRange}
 use Rattle.coordinate.specs.Nearest.{NearestFacts}
 use Rattle.coordinate.specs.declared.Pixel.{Pixel}
 use Rattle.coordinate.proofs.Nearest.{nearest-facts}
-use Rattle.refusal.specs.Refusal.{given, firstMet}
+use Rattle.refusal.specs.Refusal.{given, refused, answer, firstMet}
 use Rattle.refusal.proofs.Handing.{given-by}
+use Rattle.refusal.proofs.Conditions.{met as first, unmet}
+use Rattle.counting.proofs.Boolean.{tell}
 use Rattle.pen.specs.Worth.{numerator, denominator, nearestTo}
-use Rattle.pen.specs.Touching.{pointConditions, pixelOf, touchAnswer}
-use Rattle.pen.specs.PixelFacts.{RoundsTo, HalfPixel, PixelFacts}
+use Rattle.pen.specs.Touching.{notFinite, roundedOut, pointConditions, pixelOf, touchAnswer}
+use Rattle.pen.specs.PenFacts.{RoundsTo, HalfPixel, PixelFacts, RefusalFacts}
 use Rattle.pen.specs.declared.report.Point.{Point}
 use Rattle.pen.specs.declared.report.Report.the-variants.{Touching}
-use Rattle.pen.proofs.Conditions.{both-finite, both-in, passed-point, pass-point}
+use Rattle.pen.proofs.Conditions.{both-finite, both-in, passed-point, pass-point, all-finite, column-meets, row-meets}
 
 denominator-pos : (x : Float) → 0 < denominator x
 unfolding denominator
@@ -76,3 +81,34 @@ module _ (p : Point) (q : Pixel) where
 
   pub pixel-facts : PixelFacts p q
   pixel-facts = record { rounds = answered; near = halves; only = met }
+
+-- ---- refusals
+
+module _ (p : Point) where
+  numbered : (n : ℕ) → firstMet (pointConditions p) ≡ suc n → touchAnswer (Touching p) ≡ refused (suc n)
+  numbered n e = ap (λ (k : ℕ). answer k (some (pixelOf p))) e
+
+  thirteen : notFinite p ≡ true → touchAnswer (Touching p) ≡ refused 13
+  thirteen e = numbered 12 (first 13 (notFinite p) ((14, roundedOut p) ∷ []) e)
+
+  fourteen : finite (p .column) ≡ true → finite (p .row) ≡ true
+      → ((q : Pixel) → RoundsTo (p .column) (q .column) → RoundsTo (p .row) (q .row) → ⊥) → touchAnswer (Touching p) ≡ refused 14
+  fourteen f g none-rounds = ⊎-elim out in-both (tell (roundedOut p))
+    where
+      out : roundedOut p ≡ true → touchAnswer (Touching p) ≡ refused 14
+      out e = numbered 13 (unmet 13 (notFinite p) _ (all-finite p f g) ∙ first 14 (roundedOut p) [] e)
+
+      in-both : roundedOut p ≡ false → touchAnswer (Touching p) ≡ refused 14
+      in-both e =
+          let r = both-in p e in
+          absurd (none-rounds (pixelOf p) (rounds-to (p .column) f (r .0)) (rounds-to (p .row) g (r .1)))
+
+  pub refusal-facts : RefusalFacts p
+  refusal-facts =
+      record {
+        column-thirteen = λ e. thirteen (column-meets p e);
+        row-thirteen = λ e. thirteen (row-meets p e);
+        fourteen = fourteen;
+        hovering = refl;
+        lifted = refl;
+      }
