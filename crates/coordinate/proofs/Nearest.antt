@@ -1,6 +1,6 @@
 -- The floor of z / c is the only q with q × c ≤ z < q × c + c; with z = 2 × p + d and c = 2 × d that is `WithinHalf`.
 use Prim.Native.Nat.{ℕ, _+_, _*_, _/_, _≤_, _<_}
-use mathlib.Core.Path.{_≡_, refl}
+use mathlib.Core.Path.{_≡_, refl, sym}
 use mathlib.Core.Bool.{true, false}
 use mathlib.Core.Logic.{_↔_}
 use native.Mathlib.Nat.{div-add-mod', mod-lt, mul-comm, mul-add, mul-assoc, mul-le-mul-left, lt-of-mul-lt-mul-left}
@@ -11,7 +11,7 @@ use Rattle.counting.proofs.Boolean.{to-T, of-T}
 use Rattle.coordinate.specs.Coordinate.{apart, outOfRange}
 use Rattle.coordinate.specs.Nearest.{floorDiv, nearest, WithinHalf, NearestFacts}
 use Rattle.coordinate.proofs.Bias.{in-range, range-in}
-use Rattle.coordinate.proofs.Difference.{Diff, above, below, diff-parts, diff-eq, diff-same, diff-times, diff-plus, diff-less, diff-le, diff-lt, diff-apart}
+use Rattle.coordinate.proofs.Difference.{Diff, above, below, diff-parts, diff-eq, diff-same, diff-add, diff-times, diff-plus, diff-less, diff-le, diff-lt, diff-apart}
 
 -- ---- the floor
 
@@ -147,3 +147,19 @@ module _ (p : ℤ) (d a b : ℕ) (D : 0 < d) (P : Diff p a b) where
       let k = lt-of-mul-lt-mul-left (2 * d) {m = v} {n = u + 16385} (omega (arith, bounds .next)) in
       let g = lt-of-mul-lt-mul-left (2 * d) {m = u} {n = v + 16384} (omega (arith, bounds .least)) in
       range-in (nearest p d) u v (diff-parts (nearest p d)) (omega arith) (omega arith)
+
+-- of k + p / d, for a whole number k
+pub nearest-shift : (k p : ℤ) (d : ℕ) → 0 < d → nearest (pos d *ℤ k +ℤ p) d ≡ k +ℤ nearest p d
+nearest-shift k p d D =
+    let K = diff-parts k in
+    let P = diff-parts p in
+    let N = diff-parts (nearest p d) in
+    let f = bounds p d _ _ D P in
+    let x = mul-assoc 2 d (above (nearest p d)) in
+    let y = mul-assoc 2 d (below (nearest p d)) in
+    let u = mul-add d (above k) (above (nearest p d)) in
+    let v = mul-add d (below k) (below (nearest p d)) in
+    sym
+    (nearest-is (pos d *ℤ k +ℤ p) (k +ℤ nearest p d) d _ _ _ _ D
+    (diff-add (pos d *ℤ k) p _ _ _ _ (diff-times d k _ _ K) P) (diff-add k (nearest p d) _ _ _ _ K N)
+    (omega (arith, f .least)) (omega (arith, f .next)))

@@ -1,15 +1,16 @@
 -- The facts of document 01, each from the laws of m, of D and of a run's first step.
-use Prim.Native.Nat.{ℕ, zero, suc, _+_, _*_, _≤_, _<_}
+use Prim.Native.Nat.{ℕ, zero, suc, _+_, _-_, _*_, _≤_, _<_}
 use mathlib.Core.Path.{_≡_}
 use mathlib.Core.Logic.{_⊎_, inl, inr}
+use mathlib.Core.Bool.{Bool}
 use native.Mathlib.Omega.{arith}
 use native.Mathlib.Nat.{add-zero, mul-le-mul-left}
-use lib.IntN.{ℤ, pos, _-ℤ_, _*ℤ_}
-use Rattle.coordinate.proofs.Difference.{Diff, diff-pos, diff-apart, diff-move, diff-times, diff-gap}
+use lib.IntN.{ℤ, pos}
+use Rattle.coordinate.proofs.Difference.{diff-pos, diff-apart}
 use Rattle.interpolation.specs.Interpolation.{m, Rounding}
-use Rattle.interpolation.specs.Facts.{HalfPixel, Pair, ShallowPair, SteepPair, RunLengths}
+use Rattle.interpolation.specs.Facts.{HalfPixel, Pair, ShallowPair, SteepPair, DoubleStep, RunLengths}
 use Rattle.interpolation.proofs.Laws.{at-m}
-use Rattle.interpolation.proofs.DoubleStep.{Two, shallow-two-flat, shallow-flat-first, shallow-diagonal-first}
+use Rattle.interpolation.proofs.DoubleStep.{Two, Below, below-lt, below-le, shallow-two-flat, shallow-flat-first, shallow-diagonal-first}
 use Rattle.interpolation.proofs.DoubleStep.{steep-two-diagonal, steep-flat-first, steep-diagonal-first}
 use Rattle.interpolation.proofs.RunLaws.{first-zero, first-past}
 use Rattle.interpolation.proofs.RunLengths.{run-exists, run-follows, run-steps, run-inner, run-outer}
@@ -31,25 +32,32 @@ half-pixel {h} {L} {S} s r =
 pair : {h L S j a b : ℕ} → Two h L S (2 * j) a b → Pair h L S j a b
 pair w = record { middle = w .middle .short; end = w .end .short }
 
--- with 2 × S below L, D's tests tell the two steps of each pair
-pub shallow-pair : {L S j : ℕ} → 2 * S < L → ShallowPair L S j
-shallow-pair {L} {S} {j} g =
-    let w : Diff (pos (2 * S)) (2 * S + 0) 0 = omega arith in
-    record {
-      two-flat = λ x. pair (shallow-two-flat L 0 L S (add-zero L) g j x);
-      flat-first = λ x y. pair (shallow-flat-first L 0 L S (add-zero L) g j (pos (2 * S)) w x y);
-      diagonal-first = λ x y. pair (shallow-diagonal-first L 0 L S (add-zero L) g j (pos (2 * S)) w y);
-    }
+-- D's tests tell the two steps of each pair, whichever way a half goes
+module _ {below : ℤ → ℤ → Bool} {t : ℕ} (B : Below below t) {h L S j : ℕ} (e : h + t ≡ L) where
+  pub shallow-pair : 2 * S < L → ShallowPair below h L S j
+  shallow-pair g =
+      record {
+        two-flat = λ x. pair (shallow-two-flat B h L S e g j x);
+        flat-first = λ x y. pair (shallow-flat-first B h L S e g j x y);
+        diagonal-first = λ x y. pair (shallow-diagonal-first B h L S e g j y);
+      }
 
--- with 2 × S at least L, they do so by the tests for that case
-pub steep-pair : {L S j : ℕ} → 1 ≤ L → S ≤ L → L ≤ 2 * S → SteepPair L S j
-steep-pair {L} {S} {j} l s g =
-    let W : ℤ = pos 2 *ℤ (pos S -ℤ pos L) in
-    let w : Diff W (2 * S + 0) (2 * L) = diff-move W _ _ _ _ (omega arith) (diff-times 2 (pos S -ℤ pos L) S L (diff-gap S L)) in
+  pub steep-pair : 1 ≤ L → S ≤ L → L ≤ 2 * S → SteepPair below h L S j
+  steep-pair l s g =
+      record {
+        two-diagonal = λ x. pair (steep-two-diagonal B h L S e l s g j x);
+        flat-first = λ x y. pair (steep-flat-first B h L S e l s g j y);
+        diagonal-first = λ x y. pair (steep-diagonal-first B h L S e l s g j x y);
+      }
+
+pub double-step : {L S : ℕ} → 1 ≤ L → S ≤ L → DoubleStep L S
+double-step {L} {S} l s =
+    let less : L - 1 + 1 ≡ L = omega arith in
     record {
-      two-diagonal = λ x. pair (steep-two-diagonal L 0 L S (add-zero L) l s g j x);
-      flat-first = λ x y. pair (steep-flat-first L 0 L S (add-zero L) l s g j W w y);
-      diagonal-first = λ x y. pair (steep-diagonal-first L 0 L S (add-zero L) l s g j W w x y);
+      shallow-rising = λ j g. shallow-pair below-lt (add-zero L) g;
+      shallow-falling = λ j g. shallow-pair below-le less g;
+      steep-rising = λ j g. steep-pair below-lt (add-zero L) l s g;
+      steep-falling = λ j g. steep-pair below-le less l s g;
     }
 
 between : {c x : ℕ} → (x ≡ c) ⊎ (x ≡ c + 1) → (c ≤ x) × (x ≤ c + 1)

@@ -3,3 +3,4 @@ pub mod RunLaws
 pub mod DoubleStep
 pub mod RunLengths
 pub mod Facts
+pub mod Exchanged

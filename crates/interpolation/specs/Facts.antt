@@ -1,11 +1,12 @@
--- Document 01, 'Facts that follow', as statements about the definitions; their proofs are in proofs/Facts.antt.
+-- Document 01, 'Facts that follow', as statements about the definitions, those on pairs of steps with the falling case of
+-- document 02, 4/13; their proofs are in proofs/Facts.antt.
 -- Assumes nothing.
-use Prim.Native.Nat.{ℕ, _+_, _*_, _/_, _≤_, _<_}
+use Prim.Native.Nat.{ℕ, _+_, _-_, _*_, _/_, _≤_, _<_}
 use mathlib.Core.Path.{_≡_}
 use mathlib.Core.Logic.{_↔_, _⊎_}
-use mathlib.Core.Bool.{true, false}
-use lib.IntN.{pos, _-ℤ_, _*ℤ_}
-use lib.Signed.{ltZ}
+use mathlib.Core.Bool.{Bool, true, false}
+use lib.IntN.{ℤ, pos, _-ℤ_, _*ℤ_}
+use lib.Signed.{ltZ, leZ}
 use Rattle.coordinate.specs.Coordinate.{apart}
 use Rattle.interpolation.specs.Interpolation.{m}
 use Rattle.interpolation.specs.Runs.{runFirst, runPixels}
@@ -20,17 +21,25 @@ pub record Pair (h L S j a b : ℕ) : Type 0 where
   pub middle : m h L S (2 * j + 1) ≡ m h L S (2 * j) + a
   pub end : m h L S (2 * j + 2) ≡ m h L S (2 * j) + b
 
--- the double step as document 01 prints it, for pair j of a line with 2 × S below L
-pub record ShallowPair (L S j : ℕ) : Type 0 where
-  pub two-flat : ltZ (shallow 0 L S j) (pos 0) ≡ true → Pair L L S j 0 0
-  pub flat-first : ltZ (shallow 0 L S j) (pos 0) ≡ false → ltZ (shallow 0 L S j) (pos (2 * S)) ≡ true → Pair L L S j 0 1
-  pub diagonal-first : ltZ (shallow 0 L S j) (pos 0) ≡ false → ltZ (shallow 0 L S j) (pos (2 * S)) ≡ false → Pair L L S j 1 1
+-- The double step, for pair j of a line with 2 × S below L. `below` is < and h is L where the short coordinate rises or
+-- stays, as document 01 has it; where it falls, `below` is ≤ and h is L − 1 (document 02, 4/13).
+pub record ShallowPair (below : ℤ → ℤ → Bool) (h L S j : ℕ) : Type 0 where
+  pub two-flat : below (shallow below L S j) (pos 0) ≡ true → Pair h L S j 0 0
+  pub flat-first : below (shallow below L S j) (pos 0) ≡ false → below (shallow below L S j) (pos (2 * S)) ≡ true → Pair h L S j 0 1
+  pub diagonal-first : below (shallow below L S j) (pos 0) ≡ false → below (shallow below L S j) (pos (2 * S)) ≡ false → Pair h L S j 1 1
 
 -- the same with 2 × S at least L
-pub record SteepPair (L S j : ℕ) : Type 0 where
-  pub two-diagonal : ltZ (steep 0 L S j) (pos 0) ≡ false → Pair L L S j 1 2
-  pub flat-first : ltZ (steep 0 L S j) (pos 0) ≡ true → ltZ (steep 0 L S j) (pos 2 *ℤ (pos S -ℤ pos L)) ≡ true → Pair L L S j 0 1
-  pub diagonal-first : ltZ (steep 0 L S j) (pos 0) ≡ true → ltZ (steep 0 L S j) (pos 2 *ℤ (pos S -ℤ pos L)) ≡ false → Pair L L S j 1 1
+pub record SteepPair (below : ℤ → ℤ → Bool) (h L S j : ℕ) : Type 0 where
+  pub two-diagonal : below (steep below L S j) (pos 0) ≡ false → Pair h L S j 1 2
+  pub flat-first : below (steep below L S j) (pos 0) ≡ true → below (steep below L S j) (pos 2 *ℤ (pos S -ℤ pos L)) ≡ true → Pair h L S j 0 1
+  pub diagonal-first : below (steep below L S j) (pos 0) ≡ true → below (steep below L S j) (pos 2 *ℤ (pos S -ℤ pos L)) ≡ false → Pair h L S j 1 1
+
+-- both at every pair, where the short coordinate rises or stays and where it falls
+pub record DoubleStep (L S : ℕ) : Type 0 where
+  pub shallow-rising : (j : ℕ) → 2 * S < L → ShallowPair ltZ L L S j
+  pub shallow-falling : (j : ℕ) → 2 * S < L → ShallowPair leZ (L - 1) L S j
+  pub steep-rising : (j : ℕ) → L ≤ 2 * S → SteepPair ltZ L L S j
+  pub steep-falling : (j : ℕ) → L ≤ 2 * S → SteepPair leZ (L - 1) L S j
 
 -- the runs: S + 1 of them, one after the other without a gap, and their lengths; c is the whole part of L / S
 pub record RunLengths (h L S : ℕ) : Type 0 where

@@ -1,4 +1,4 @@
-// The second drawer: from document 01's definition of m(i), one division a step, every pixel tested against the window.
+// The second drawer: each coordinate by one division a step, from the definition, every pixel tested against the window.
 // Coordinates are counted from the lowest. It shares no code with the drawers that it is compared with.
 ghost use Prim.Native.Nat.{_≤_, _<_};
 
@@ -9,25 +9,15 @@ fn apart(a: u32, b: u32) -> u32
     if a < b { b - a } else { a - b }
 }
 
-// m(i) of a line `l` by `s`.
-fn m(l: u32, s: u32, i: u32) -> u32
-    requires { ⌜ (l < 32768) × (s < 32768) × (i < 32768) ⌝ }
-    ensures { λ r. ⌜ r < 2147483648 ⌝ }
+// The whole number nearest to the coordinate at step `i` of `l` on the exact way from `a` to `b`, a half to the larger. The
+// exact coordinate is a + i × (b − a) / l, which is (a × (l − i) + b × i) / l. The way along the long axis is exact.
+fn nearest(a: u32, b: u32, l: u32, i: u32) -> u32
+    requires { ⌜ (a < 32768) × (b < 32768) × (l < 32768) × (i ≤ l) ⌝ }
 {
     if l == 0 {
-        return 0;
+        return a;
     }
-    (2 * i * s + l) / (2 * l)
-}
-
-// The coordinate `n` away from `a`, towards `b`.
-fn toward(a: u32, b: u32, n: u32) -> u32
-    requires { ⌜ (a < 32768) × (n < 2147483648) ⌝ }
-{
-    if a <= b {
-        return a + n;
-    }
-    if n <= a { a - n } else { 0 }
+    (2 * (a * (l - i) + b * i) + l) / (2 * l)
 }
 
 // Marks the pixel in a column and a row of the raster, counted from 0.
@@ -56,26 +46,11 @@ fn mark_in(x: u32, y: u32, left: u32, top: u32, width: u32, height: u32, raster:
     1
 }
 
-// The first of two numbers, or the second.
-fn pick(first: bool, a: u32, b: u32) -> u32
-    requires { ⌜ (a < 2147483648) × (b < 2147483648) ⌝ }
-    ensures { λ r. ⌜ r < 2147483648 ⌝ }
-{
-    if first { a } else { b }
-}
-
 fn larger(a: u32, b: u32) -> u32
     requires { ⌜ (a < 32768) × (b < 32768) ⌝ }
     ensures { λ r. ⌜ r < 32768 ⌝ }
 {
     if a < b { b } else { a }
-}
-
-fn smaller(a: u32, b: u32) -> u32
-    requires { ⌜ (a < 32768) × (b < 32768) ⌝ }
-    ensures { λ r. ⌜ r < 32768 ⌝ }
-{
-    if a < b { a } else { b }
 }
 
 // Marks the line's pixels in the window and answers how many they are.
@@ -95,14 +70,11 @@ pub fn draw(
     let dx = apart(x0, x1);
     let dy = apart(y0, y1);
     let l = larger(dx, dy);
-    let s = smaller(dx, dy);
-    let steep = dx < dy;
     let mut count: u64 = 0;
     let mut i: u32 = 0;
     while i <= l {
-        let d = m(l, s, i);
-        let x = toward(x0, x1, pick(steep, d, i));
-        let y = toward(y0, y1, pick(steep, i, d));
+        let x = nearest(x0, x1, l, i);
+        let y = nearest(y0, y1, l, i);
         count += mark_in(x, y, left, top, width, height, raster);
         i += 1;
     }

@@ -1,2 +1,4 @@
+pub mod Halves
 pub mod Pixels
+pub mod Exchanged
 pub mod Conditions

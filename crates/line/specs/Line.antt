@@ -1,14 +1,14 @@
--- Document 01, 'What a line is'. Assumes nothing.
+-- Document 01, 'What a line is', with the halves of document 02, 4/13. Assumes nothing.
 use Prim.Native.Nat.{ℕ, suc, min, max}
 use mathlib.Core.Bool.{Bool, cond, _&&_, _||_}
 use mathlib.Core.List.{List, [], _∷_}
-use lib.IntN.{ℤ, pos, _+ℤ_, _-ℤ_}
+use lib.IntN.{ℤ, pos, _+ℤ_, _-ℤ_, _*ℤ_}
 use lib.Signed.{ltZ}
 use lib.Dec.{ltb}
 use Rattle.counting.specs.Count.{any}
 use Rattle.coordinate.specs.Coordinate.{outOfRange, apart, same, along}
+use Rattle.coordinate.specs.Nearest.{nearest}
 use Rattle.coordinate.specs.declared.Pixel.{Pixel}
-use Rattle.interpolation.specs.Interpolation.{m}
 use Rattle.line.specs.declared.ends.Ends.{Ends}
 use Rattle.coordinate.specs.declared.Axis.{Axis}
 use Rattle.coordinate.specs.declared.Axis.the-variants.{X, Y}
@@ -28,34 +28,34 @@ axis e = cond (ltb (apart (e .x0) (e .x1)) (apart (e .y0) (e .y1))) Y X
 abbrev pub toward : ℤ → ℤ → ℕ → ℤ
 toward a b n = cond (ltZ b a) (a -ℤ pos n) (a +ℤ pos n)
 
--- how the line's halves are rounded: away from the first end
-unfoldable pub offset : Ends → ℕ
-unfolding long
-offset e = long e
+-- the whole number nearest to a + i × (b − a) / n, a half to the larger. A quotient by 0 is 0, so a line of one pixel needs
+-- no case.
+unfoldable pub interpolated : ℤ → ℤ → ℕ → ℕ → ℤ
+interpolated a b n i = a +ℤ nearest (pos i *ℤ (b -ℤ a)) n
 
--- m(i), the short distance from the first end at step i
-unfoldable pub distance : Ends → ℕ → ℕ
-unfolding long short offset
-distance e i = m (offset e) (long e) (short e) i
-
--- the pixel i away from the first end along the long axis and k away across it, both towards the second end
-unfoldable pub pixelAt : Ends → ℕ → ℕ → Pixel
-unfolding axis
-pixelAt e i k =
-    record {
-      column = toward (e .x0) (e .x1) (along (axis e) i k);
-      row = toward (e .y0) (e .y1) (along (axis e) k i);
-    }
-
--- the line's pixel at step i, for i from 0 to L
+-- The line's pixel at step i, for i from 0 to L. The long coordinate is i away from the first end. The short coordinate is
+-- the nearest whole number to the exact one, and a half goes to the larger, whichever end is first.
 unfoldable pub pixel : Ends → ℕ → Pixel
-unfolding distance pixelAt
-pixel e i = pixelAt e i (distance e i)
+unfolding long axis interpolated
+pixel e i =
+    record {
+      column = along (axis e) (toward (e .x0) (e .x1) i) (interpolated (e .x0) (e .x1) (long e) i);
+      row = along (axis e) (interpolated (e .y0) (e .y1) (long e) i) (toward (e .y0) (e .y1) i);
+    }
 
 -- the pixel in a column and a row is one of the line's
 unfoldable pub onLine : Ends → ℤ → ℤ → Bool
 unfolding long pixel
 onLine e column row = any (suc (long e)) (λ i. same (pixel e i .column) column && same (pixel e i .row) row)
+
+-- a pixel's coordinate along the long axis, and across it
+unfoldable pub longOf : Ends → Pixel → ℤ
+unfolding axis
+longOf e p = along (axis e) (p .column) (p .row)
+
+unfoldable pub acrossOf : Ends → Pixel → ℤ
+unfolding axis
+acrossOf e p = along (axis e) (p .row) (p .column)
 
 -- 1: a coordinate of an end is out of range
 unfoldable pub endsOut : Ends → Bool

@@ -2,8 +2,8 @@
 use crate::ends::Ends;
 use coordinate::Coordinate;
 ghost use mathlib.Core.Path.{_≡_};
-ghost use mathlib.Core.Bool.{false};
-ghost use Prim.Native.Nat.{_+_, _-_, _<_};
+ghost use mathlib.Core.Bool.{false, cond};
+ghost use Prim.Native.Nat.{_+_, _-_, _≤_};
 ghost use Rattle.line.specs.Line.{endsOut};
 ghost use Rattle.line.specs.Trace.{Traced};
 
@@ -27,6 +27,14 @@ fn distance(a: u32, b: u32) -> u32
     if a <= b { b - a } else { a - b }
 }
 
+// What m is rounded by: a half goes to the larger coordinate, which is nearer the first end where the short one falls.
+fn half_of(rises: bool, long: u32) -> u32
+    requires { ⌜ (rises ≡ false → 1 ≤ long) ⌝ }
+    ensures { λ r. ⌜ r ≡ cond rises long (long - 1) ⌝ }
+{
+    if rises { long } else { long - 1 }
+}
+
 // The line between two ends that are within the limits.
 pub fn line_of(ends: Ends) -> Line
     requires { ⌜ endsOut ends ≡ false ⌝ }
@@ -47,7 +55,7 @@ pub fn line_of(ends: Ends) -> Line
             row: y0,
             long: dy,
             short: dx,
-            half: dy,
+            half: half_of(right, dy),
             steep: true,
             right,
             down,
@@ -59,7 +67,7 @@ pub fn line_of(ends: Ends) -> Line
         row: y0,
         long: dx,
         short: dy,
-        half: dx,
+        half: half_of(down, dx),
         steep: false,
         right,
         down,

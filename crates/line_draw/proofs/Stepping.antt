@@ -15,7 +15,8 @@ use Rattle.raster.specs.declared.window.Window.{Window}
 use Rattle.raster.proofs.Frames.{Frame, Shaped, raster-max}
 use Rattle.raster.proofs.BitLaws.{point-plus, bit-within}
 use Rattle.raster.proofs.Inside.{inside}
-use Rattle.line.specs.Line.{long, short, offset, distance, pixel}
+use Rattle.line.specs.Line.{long, short, pixel}
+use Rattle.line.specs.Distance.{offset, distance}
 use Rattle.line.specs.Trace.{Traced}
 use Rattle.line.specs.declared.ends.Ends.{Ends}
 use Rattle.line.specs.declared.trace.Line.{Line}

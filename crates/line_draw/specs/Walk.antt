@@ -10,7 +10,8 @@ use Rattle.interpolation.specs.Interpolation.{rest}
 use Rattle.raster.specs.Raster.{inWindow}
 use Rattle.raster.specs.Bits.{bitOf, point}
 use Rattle.raster.specs.declared.window.Window.{Window}
-use Rattle.line.specs.Line.{long, short, offset, distance, pixel}
+use Rattle.line.specs.Line.{long, short, pixel}
+use Rattle.line.specs.Distance.{offset, distance}
 use Rattle.line.specs.declared.ends.Ends.{Ends}
 use Rattle.line_draw.specs.declared.visible.Steps.{Steps}
 use Rattle.line_draw.specs.declared.walk.Spot.{Spot}

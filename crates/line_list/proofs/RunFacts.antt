@@ -28,7 +28,8 @@ use Rattle.raster.specs.declared.window.Window.{Window}
 use Rattle.runs.specs.Run.{Run, numbers, runList, runPixel, inRun, runCount}
 use Rattle.runs.specs.Painting.{storedAcross, storedLowest, storedPixels, natural, runAt, runBad, firstBad, inRuns, paintCount, paintConditions}
 use Rattle.runs.proofs.Outcome.{all-passed}
-use Rattle.line.specs.Line.{long, short, axis, distance, pixel, onLine, endsOut}
+use Rattle.line.specs.Line.{long, short, axis, pixel, onLine, endsOut}
+use Rattle.line.specs.Distance.{distance}
 use Rattle.line.specs.Drawing.{lineCount, lineFresh, lineRaster, lineConditions}
 use Rattle.line.specs.declared.ends.Ends.{Ends}
 use Rattle.line.proofs.Conditions.{ends-in, frame-in}
@@ -36,7 +37,7 @@ use Rattle.line.proofs.Pixels.{distance-max}
 use Rattle.line_list.specs.Runs.{firstStep, pixelsOf, run, runs}
 use Rattle.line_list.specs.Listing.{lineList}
 use Rattle.line_list.specs.RunFacts.{falls, stepOf, Stepped, RunsAreLine, RunsDrawLine, listThen, ReadBack, NoneBad, Painted, ListedAndPainted}
-use Rattle.line_list.proofs.RunPixels.{count-turned, lengths, stepped, place, step-once, run-long-in, run-across-in}
+use Rattle.line_list.proofs.RunPixels.{count-turned, runs-each, lengths, stepped, place, step-once, run-long-in, run-across-in}
 
 -- ---- the runs are the line
 
@@ -46,11 +47,10 @@ run-pixels e k = refl
 
 -- the runs are the line's pixels in its order, each in one run once
 pub runs-are-line : (e : Ends) → RunsAreLine e
-unfolding runs
 runs-are-line e =
     let r = lengths e in
     record {
-      number = each-length (short e + 1) (run e);
+      number = rw (runs-each e) (each-length (short e + 1) (run e));
       pixels-is = run-pixels e;
       some = λ k q. r .runs k .1 q;
       steps = stepped e;
@@ -142,17 +142,17 @@ read rest (suc n) f (suc k) c p q =
 
 module _ (e : Ends) (rest : List ℤ) where
   module _ (k : ℕ) (l : k < short e + 1) where
+    stored : (c : ℕ) → c < 3 → getD (listThen e rest) (3 * k + c) (pos 0) ≡ getD (numbers (run e k)) c (pos 0)
+    stored c q = rw (runs-each e) (read rest (short e + 1) (run e) k c l q)
+
     across-back : storedAcross (listThen e rest) k ≡ run e k .across
-    unfolding runs
-    across-back = ap (λ (x : ℕ). getD (listThen e rest) x (pos 0)) (sym (add-zero (3 * k))) ∙ read rest (short e + 1) (run e) k 0 l (omega arith)
+    across-back = ap (λ (x : ℕ). getD (listThen e rest) x (pos 0)) (sym (add-zero (3 * k))) ∙ stored 0 (omega arith)
 
     lowest-back : storedLowest (listThen e rest) k ≡ run e k .lowest
-    unfolding runs
-    lowest-back = read rest (short e + 1) (run e) k 1 l (omega arith)
+    lowest-back = stored 1 (omega arith)
 
     pixels-back : storedPixels (listThen e rest) k ≡ pos (run e k .pixels)
-    unfolding runs
-    pixels-back = read rest (short e + 1) (run e) k 2 l (omega arith)
+    pixels-back = stored 2 (omega arith)
 
     run-back : runAt (listThen e rest) k ≡ run e k
     run-back = rw (across-back, lowest-back, pixels-back)

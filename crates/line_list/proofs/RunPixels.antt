@@ -1,13 +1,11 @@
 -- A run's pixels from its lowest on are its steps' in their order, and in the opposite one where the long coordinate falls.
-use Prim.Native.Nat.{ℕ, _+_, _-_, _≤_, _<_, min, max}
+use Prim.Native.Nat.{ℕ, _+_, _-_, _≤_, _<_}
 use mathlib.Core.Path.{_≡_, refl, sym, ap, ap₂, _∙_}
 use mathlib.Core.Bool.{Bool, true, false, cond}
 use native.Mathlib.Omega.{arith}
 use lib.IntN.{ℤ, pos, _+ℤ_, _-ℤ_}
 use lib.Signed.{ltZ}
-use lib.Dec.{ltb}
-use borrow.Author.Tests.{ltb-true, ltb-false}
-use Rattle.counting.specs.Count.{count}
+use Rattle.counting.specs.Count.{count, each}
 use Rattle.counting.proofs.Summed.{count-back}
 use Rattle.coordinate.specs.Coordinate.{outOfRange, apart, along}
 use Rattle.coordinate.specs.declared.Axis.{Axis}
@@ -19,10 +17,12 @@ use Rattle.interpolation.proofs.RunLaws.{first-max}
 use Rattle.interpolation.proofs.Facts.{run-lengths}
 use Rattle.interpolation.specs.Facts.{RunLengths}
 use Rattle.runs.specs.Run.{runPixel}
-use Rattle.line.specs.Line.{long, short, offset, axis, distance, toward, pixelAt, pixel, endsOut}
+use Rattle.line.specs.Line.{long, short, axis, toward, longOf, acrossOf, endsOut}
+use Rattle.line.specs.Distance.{offset, distance, pixelAt}
 use Rattle.line.specs.declared.ends.Ends.{Ends}
+use Rattle.line.proofs.Halves.{by-axis, pixel-is}
 use Rattle.line.proofs.Pixels.{short-le, rounding, ended, toward-reached}
-use Rattle.line_list.specs.Runs.{longOf, acrossOf, lower, firstStep, pixelsOf, run}
+use Rattle.line_list.specs.Runs.{lower, firstStep, pixelsOf, run, runs}
 use Rattle.line_list.specs.RunFacts.{falls, turned, stepOf, Stepped, Once}
 
 -- ---- turning
@@ -120,6 +120,11 @@ long-moved e i k = long-is e i k ∙ rw (falls-is e)
 
 -- ---- run k
 
+-- the runs stand in the line's order from the first end
+pub runs-each : (e : Ends) → runs e ≡ each (short e + 1) (run e)
+unfolding runs
+runs-each e = refl
+
 pub lengths : (e : Ends) → RunLengths (offset e) (long e) (short e)
 lengths e = run-lengths (short-le e) (rounding e)
 
@@ -155,12 +160,11 @@ module _ (e : Ends) (k j : ℕ) (l : j < pixelsOf e k) where
   step-distance = lengths e .steps (stepOf e k j) k step-on .1 (step-in .0, omega (arith, step-in, lengths e .follows k))
 
   pub stepped : Stepped e k j (stepOf e k j)
-  unfolding pixel
   stepped =
       record {
         within = step-on;
         distance-is = step-distance;
-        pixel-is = ap (pixelAt e (stepOf e k j)) step-distance ∙ run-pixel;
+        pixel-is = pixel-is e (stepOf e k j) ∙ ap (pixelAt e (stepOf e k j)) step-distance ∙ run-pixel;
       }
 
 -- each step is one of its run's, once
@@ -185,18 +189,6 @@ module _ (e : Ends) (i k : ℕ) (p : i ≤ long e) (q : distance e i ≡ k) wher
       }
 
 -- ---- ends within the limits
-
--- L and S by the coordinates along the long axis and across it
-by-axis : (e : Ends) → (long e ≡ apart (along (axis e) (e .x0) (e .y0)) (along (axis e) (e .x1) (e .y1)))
-    × (short e ≡ apart (along (axis e) (e .y0) (e .x0)) (along (axis e) (e .y1) (e .x1)))
-unfolding long short axis
-by-axis e = go (ltb (apart (e .x0) (e .x1)) (apart (e .y0) (e .y1))) refl
-  where
-    go : (t : Bool) → ltb (apart (e .x0) (e .x1)) (apart (e .y0) (e .y1)) ≡ t
-        → (max (apart (e .x0) (e .x1)) (apart (e .y0) (e .y1)) ≡ apart (along (cond t Y X) (e .x0) (e .y0)) (along (cond t Y X) (e .x1) (e .y1)))
-        × (min (apart (e .x0) (e .x1)) (apart (e .y0) (e .y1)) ≡ apart (along (cond t Y X) (e .y0) (e .x0)) (along (cond t Y X) (e .y1) (e .x1)))
-    go true q = let o = ltb-true (apart (e .x0) (e .x1)) (apart (e .y0) (e .y1)) q in (omega arith, omega arith)
-    go false q = let o = ltb-false (apart (e .x0) (e .x1)) (apart (e .y0) (e .y1)) q in (omega arith, omega arith)
 
 -- on the way from one coordinate to another none is out of range
 toward-in : (a b : ℤ) (n : ℕ) → outOfRange a ≡ false → outOfRange b ≡ false → n ≤ apart a b → outOfRange (toward a b n) ≡ false

@@ -1,5 +1,5 @@
--- Document 01, 'Known lines': the lettered lines, as statements about the definitions; their proof, by computation, is in
--- proofs/Known.antt. Assumes nothing.
+-- Document 01, 'Known lines': the lettered lines, line E as document 02, 4/13, has it, and halves in every direction, as
+-- statements about the definitions; their proof, by computation, is in proofs/Known.antt. Assumes nothing.
 use Prim.Native.Nat.{ℕ, _+_, _-_}
 use mathlib.Core.Path.{_≡_}
 use mathlib.Core.List.{List, [], _∷_}
@@ -9,7 +9,8 @@ use Rattle.coordinate.specs.declared.Pixel.{Pixel}
 use Rattle.coordinate.specs.declared.Axis.the-variants.{X, Y}
 use Rattle.raster.specs.declared.window.Window.{Window}
 use Rattle.runs.specs.Run.{Run}
-use Rattle.line.specs.Line.{long, axis, distance, pixel}
+use Rattle.line.specs.Line.{long, axis, pixel}
+use Rattle.line.specs.Distance.{distance}
 use Rattle.line.specs.Drawing.{lineCount, lineFresh, lineRaster}
 use Rattle.line.specs.declared.ends.Ends.{Ends}
 use Rattle.line_list.specs.Runs.{runs}
@@ -48,7 +49,7 @@ pub record Lettered : Type 0 where
   pub C : runs (from (pos 0) (pos 0) (pos 3) (pos 3))
       ≡ lies (pos 0) (pos 0) 1 ∷ lies (pos 1) (pos 1) 1 ∷ lies (pos 2) (pos 2) 1 ∷ lies (pos 3) (pos 3) 1 ∷ []
   pub D : pixel (from (pos 0) (pos 0) (pos 2) (pos 1)) 1 ≡ at (pos 1) (pos 1)
-  pub E : pixel (from (pos 2) (pos 1) (pos 0) (pos 0)) 1 ≡ at (pos 1) (pos 0)
+  pub E : pixel (from (pos 2) (pos 1) (pos 0) (pos 0)) 1 ≡ at (pos 1) (pos 1)
   pub F : each 5 (λ i. pixel (from (pos 0) (pos 0) (pos 4) (pos 2)) i .row) ≡ pos 0 ∷ pos 1 ∷ pos 1 ∷ pos 2 ∷ pos 2 ∷ []
   pub G : (axis (from (pos 0) (pos 0) (pos 3) (pos 7)) ≡ Y)
       × (runs (from (pos 0) (pos 0) (pos 3) (pos 7))
@@ -62,10 +63,27 @@ pub record Lettered : Type 0 where
 
 -- how many pixels of lettered lines are new
 pub record LetteredNew : Type 0 where
-  -- all of line D's on a clear raster; of line E's over it only (1,0)
+  -- all of line D's on a clear raster; none of line E's over it, which is line D from the other end
   pub D : lineFresh (from (pos 0) (pos 0) (pos 2) (pos 1)) (sized 3 2) (0 ∷ 0 ∷ []) ≡ 3
-  pub E : lineFresh (from (pos 2) (pos 1) (pos 0) (pos 0)) (sized 3 2) (128 ∷ 96 ∷ []) ≡ 1
+  pub E : lineFresh (from (pos 2) (pos 1) (pos 0) (pos 0)) (sized 3 2) (128 ∷ 96 ∷ []) ≡ 0
   -- padding that is marked is no pixel
   pub J : lineFresh (from (minus 3) (pos 0) (pos 3) (pos 0)) (sized 4 1) (15 ∷ []) ≡ 4
   -- none of line K's over itself
   pub K : lineFresh lineH (sized 12 4) (192 ∷ 0 ∷ 60 ∷ 0 ∷ 3 ∷ 192 ∷ 0 ∷ 48 ∷ []) ≡ 0
+
+-- the pixel between the ends of each line from (0,0) with L = 2 and S = 1: its exact short coordinate is 1/2, which goes to 1,
+-- or −1/2, which goes to 0
+pub record LetteredHalves : Type 0 where
+  pub right-down : pixel (from (pos 0) (pos 0) (pos 2) (pos 1)) 1 ≡ at (pos 1) (pos 1)
+  pub right-up : pixel (from (pos 0) (pos 0) (pos 2) (minus 1)) 1 ≡ at (pos 1) (pos 0)
+  pub left-down : pixel (from (pos 0) (pos 0) (minus 2) (pos 1)) 1 ≡ at (minus 1) (pos 1)
+  pub left-up : pixel (from (pos 0) (pos 0) (minus 2) (minus 1)) 1 ≡ at (minus 1) (pos 0)
+  pub down-right : pixel (from (pos 0) (pos 0) (pos 1) (pos 2)) 1 ≡ at (pos 1) (pos 1)
+  pub down-left : pixel (from (pos 0) (pos 0) (minus 1) (pos 2)) 1 ≡ at (pos 0) (pos 1)
+  pub up-right : pixel (from (pos 0) (pos 0) (pos 1) (minus 2)) 1 ≡ at (pos 1) (minus 1)
+  pub up-left : pixel (from (pos 0) (pos 0) (minus 1) (minus 2)) 1 ≡ at (pos 0) (minus 1)
+  -- a line with its only halves at odd steps, and the same line from the other end
+  pub falling : each 7 (λ i. pixel (from (minus 3) (pos 1) (pos 3) (minus 2)) i .row)
+      ≡ pos 1 ∷ pos 1 ∷ pos 0 ∷ pos 0 ∷ minus 1 ∷ minus 1 ∷ minus 2 ∷ []
+  pub rising : each 7 (λ i. pixel (from (pos 3) (minus 2) (minus 3) (pos 1)) i .row)
+      ≡ minus 2 ∷ minus 1 ∷ minus 1 ∷ pos 0 ∷ pos 0 ∷ pos 1 ∷ pos 1 ∷ []

@@ -16,7 +16,8 @@ use Rattle.raster.specs.Fresh.{freshCount}
 use Rattle.raster.specs.declared.window.Window.{Window}
 use Rattle.runs.specs.Run.{runList, runPixel, inRun, runCount}
 use Rattle.runs.specs.Painting.{storedAcross, storedLowest, storedPixels, runAt, runBad, firstBad, inRuns, paintCount, paintAnswer, paintAfter}
-use Rattle.line.specs.Line.{long, short, axis, distance, pixel, onLine, endsOut}
+use Rattle.line.specs.Line.{long, short, axis, pixel, onLine, endsOut}
+use Rattle.line.specs.Distance.{distance}
 use Rattle.line.specs.Drawing.{lineCount, lineFresh, lineMarks, lineRaster}
 use Rattle.line.specs.declared.ends.Ends.{Ends}
 use Rattle.line_list.specs.Runs.{firstStep, pixelsOf, run, runs}

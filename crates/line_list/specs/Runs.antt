@@ -5,21 +5,11 @@ use mathlib.Core.List.{List}
 use lib.IntN.{ℤ}
 use lib.Signed.{ltZ}
 use Rattle.counting.specs.Count.{each}
-use Rattle.coordinate.specs.declared.Pixel.{Pixel}
 use Rattle.interpolation.specs.Runs.{runFirst, runPixels}
-use Rattle.coordinate.specs.Coordinate.{along}
 use Rattle.runs.specs.Run.{Run}
-use Rattle.line.specs.Line.{long, short, offset, axis, pixelAt}
+use Rattle.line.specs.Line.{long, short, longOf, acrossOf}
+use Rattle.line.specs.Distance.{offset, pixelAt}
 use Rattle.line.specs.declared.ends.Ends.{Ends}
-
--- a pixel's coordinate along the long axis, and across it
-unfoldable pub longOf : Ends → Pixel → ℤ
-unfolding axis
-longOf e p = along (axis e) (p .column) (p .row)
-
-unfoldable pub acrossOf : Ends → Pixel → ℤ
-unfolding axis
-acrossOf e p = along (axis e) (p .row) (p .column)
 
 abbrev pub lower : ℤ → ℤ → ℤ
 lower a b = cond (ltZ b a) b a

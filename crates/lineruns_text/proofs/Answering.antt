@@ -31,6 +31,7 @@ use Rattle.line_list.specs.declared.list.Listing.{Listing}
 use Rattle.line_list.specs.declared.list.Listed.{Listed}
 use Rattle.line_list.specs.declared.list.Listed.the-variants.{Runs, Refused}
 use Rattle.line_list.proofs.ListAnswer.{listing-met, listing-axis, listing-runs}
+use Rattle.line_list.proofs.RunPixels.{runs-each}
 use Rattle.line_list.proofs.RunFacts.{read-back, none-bad}
 use Rattle.lineruns_text.specs.Writing.{axisText, axisLine, refusedLine, runLines, printConditions, told, answerTo, printed}
 use Rattle.lineruns_text.specs.Reading.{lineOf}
@@ -123,9 +124,9 @@ module _ (e : Ends) (space list : List ℤ) (size : length space ≡ 15000) (r :
     good k h = rw list-is (none-bad e rest within .good k (omega (arith, runs-is)))
 
     same-runs : each (l .runs) (runAt list) ≡ runs e
-    unfolding runs
     same-runs =
         rw (runs-is, list-is) (each-cong (short e + 1) (runAt (listThen e rest)) (run e) (read-back e rest .run-is))
+        ∙ sym (runs-each e)
 
     pub told-list : axisText (along (l .axis) 120 121) (l .runs) ++ runLines (each (l .runs) (runAt list)) ≡ told (firstMet (printConditions e)) e
     unfolding axisLine
@@ -160,10 +161,9 @@ module _ (e : Ends) (few : short e + 1 ≤ 5000) where
   axis-part = axis-line-length (along (axis e) 120 121) (short e + 1) (omega arith)
 
   runs-part : endsOut e ≡ false → length (runLines (runs e)) ≤ 20 * (short e + 1)
-  unfolding runs
   runs-part p =
       let back = each-cong (short e + 1) (runAt (listThen e [])) (run e) (read-back e [] .run-is) in
-      rw (sym back) (lines-length (listThen e []) (short e + 1) (none-bad e [] p .good))
+      rw (runs-each e, sym back) (lines-length (listThen e []) (short e + 1) (none-bad e [] p .good))
 
   list-length : endsOut e ≡ false → length (axisLine e ++ runLines (runs e)) ≤ 110000
   list-length p =

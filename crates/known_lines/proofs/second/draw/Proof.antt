@@ -7,10 +7,10 @@ use Rattle.known_lines.proofs.second.draw.Statement.{statement}
 use Rattle.known_lines.proofs.second.draw.Tie as tie
 
 abbrev Inv-loop : tie.InvT-loop
-Inv-loop x0 y0 x1 y1 left top width height raster₀ dx dy l s steep count₀ i₀ raster count i = (i ≤ l + 1) × (count ≤ i) × (length raster ≡ length raster₀)
+Inv-loop x0 y0 x1 y1 left top width height raster₀ dx dy l count₀ i₀ raster count i = (i ≤ l + 1) × (count ≤ i) × (length raster ≡ length raster₀)
 
 abbrev μ-loop : tie.MeasureT-loop
-μ-loop x0 y0 x1 y1 left top width height raster₀ dx dy l s steep count₀ i₀ raster count i = l + 1 - i
+μ-loop x0 y0 x1 y1 left top width height raster₀ dx dy l count₀ i₀ raster count i = l + 1 - i
 
 apart-requires : tie.Need-apart-requires Inv-loop μ-loop
 apart-requires c κs = search needs
@@ -21,26 +21,14 @@ apart-requires-2 c κs = search needs
 larger-requires : tie.Need-larger-requires Inv-loop μ-loop
 larger-requires c κs = search needs
 
-smaller-requires : tie.Need-smaller-requires Inv-loop μ-loop
-smaller-requires c κs = search needs
-
 loop-holds : tie.Need-loop-holds Inv-loop μ-loop
 loop-holds c = search needs
 
-m-requires : tie.Need-m-requires Inv-loop μ-loop
-m-requires c κs = search needs
+nearest-requires : tie.Need-nearest-requires Inv-loop μ-loop
+nearest-requires c κs = search needs
 
-pick-requires : tie.Need-pick-requires Inv-loop μ-loop
-pick-requires c κs = search needs
-
-toward-requires : tie.Need-toward-requires Inv-loop μ-loop
-toward-requires c κs = search needs
-
-pick-requires-2 : tie.Need-pick-requires-2 Inv-loop μ-loop
-pick-requires-2 c κs = search needs
-
-toward-requires-2 : tie.Need-toward-requires-2 Inv-loop μ-loop
-toward-requires-2 c κs = search needs
+nearest-requires-2 : tie.Need-nearest-requires-2 Inv-loop μ-loop
+nearest-requires-2 c κs = search needs
 
 mark-in-requires : tie.Need-mark-in-requires Inv-loop μ-loop
 mark-in-requires c κs = search needs
@@ -72,13 +60,9 @@ draw-spec =
     apart-requires
     apart-requires-2
     larger-requires
-    smaller-requires
     loop-holds
-    m-requires
-    pick-requires
-    toward-requires
-    pick-requires-2
-    toward-requires-2
+    nearest-requires
+    nearest-requires-2
     mark-in-requires
     add-count
     add-i

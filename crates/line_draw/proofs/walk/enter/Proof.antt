@@ -11,7 +11,8 @@ use Rattle.raster.specs.Bits.{bitOf}
 use Rattle.raster.specs.Window.{windowConditions}
 use Rattle.raster.specs.declared.window.Window.{Window}
 use Rattle.raster.proofs.Frames.{size-in}
-use Rattle.line.specs.Line.{long, distance}
+use Rattle.line.specs.Line.{long}
+use Rattle.line.specs.Distance.{distance}
 use Rattle.line.specs.Trace.{Traced, away}
 use Rattle.line.specs.declared.trace.Line.{Line}
 use Rattle.line.proofs.Pixels.{step-column, step-row, traced-numbers, traced-m}
