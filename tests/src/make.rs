@@ -30,7 +30,17 @@ pub fn short_ends(random: &mut Random, reach: i32) -> Ends {
     frame::ends(x0, y0, x1, y1)
 }
 
-/// Ends whose differences are these where they stay in range, turned in any of the eight directions.
+/// L, up to `reach`, and S of a line with halves: L is even × unit and S is odd × unit, so a half comes in every `even` steps.
+/// A unit of 0 gives a line of one pixel.
+pub fn halved(random: &mut Random, reach: i32) -> (i32, i32) {
+    let half = random.pick(&[1, 1, 2, 3, 4, 5]);
+    let odd = 2 * random.below(half) as i32 + 1;
+    let even = 2 * half as i32;
+    let unit = random.between(0, reach / even);
+    (even * unit, odd * unit)
+}
+
+/// Ends whose differences are these where they stay in range, turned in any of the eight directions, either end first.
 fn ends_apart(random: &mut Random, long: i32, short: i32) -> Ends {
     let (x0, y0) = (coordinate(random), coordinate(random));
     let (across, down) = if random.one_in(2) {
@@ -46,13 +56,18 @@ fn ends_apart(random: &mut Random, long: i32, short: i32) -> Ends {
             in_range(from + by)
         }
     };
-    frame::ends(x0, y0, towards(x0, across), towards(y0, down))
+    let (x1, y1) = (towards(x0, across), towards(y0, down));
+    if random.one_in(2) {
+        frame::ends(x0, y0, x1, y1)
+    } else {
+        frame::ends(x1, y1, x0, y0)
+    }
 }
 
-/// Ends up to `reach` apart: in any direction, near an axis, near the diagonal, or with S the half of L.
+/// Ends up to `reach` apart: in any direction, near an axis, near the diagonal, or with halves.
 pub fn ends(random: &mut Random, reach: i32) -> Ends {
     let long = random.between(0, reach);
-    match random.below(6) {
+    match random.below(7) {
         0 => {
             let short = random.between(0, 3);
             ends_apart(random, long, short)
@@ -61,8 +76,11 @@ pub fn ends(random: &mut Random, reach: i32) -> Ends {
             let short = long - random.between(0, 2);
             ends_apart(random, long, short.max(0))
         }
-        2 => ends_apart(random, long - long % 2, long / 2),
-        3 if reach >= LAST => {
+        2 | 3 => {
+            let (long, short) = halved(random, reach);
+            ends_apart(random, long, short)
+        }
+        4 if reach >= LAST => {
             let mut any = || coordinate(random);
             frame::ends(any(), any(), any(), any())
         }

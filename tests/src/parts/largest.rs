@@ -9,13 +9,16 @@ use paper::line::Line;
 
 const SIDE: u32 = 8192;
 
-/// Lines over the whole range: diagonal both ways, flat, steep, and with S the half of L.
-const ENDS: [Ends; 5] = [
+/// Lines over the whole range: diagonal both ways, flat, steep, and with S the half of L, the short coordinate growing along x
+/// and falling along both axes.
+const ENDS: [Ends; 7] = [
     ends(-16384, -16384, 16383, 16383),
     ends(16383, -16384, -16384, 16383),
     ends(16383, 9000, -16384, 8999),
     ends(100, 16383, 99, -16384),
     ends(-16384, 0, 16382, 16383),
+    ends(16383, 16383, -16383, 0),
+    ends(16383, -16384, 0, 16382),
 ];
 
 fn draw(comparison: &mut Comparison, window: Window, start: &[u8], ends: Ends) {

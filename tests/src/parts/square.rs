@@ -1,5 +1,5 @@
-//! All pairs of ends in a small square with all small windows at and around it: every drawer, listing and painting, and band
-//! by band, where the bands' counts add up to the whole line's.
+//! All pairs of ends in a small square around (0, 0) with all small windows at and around it: every drawer, listing and
+//! painting, and band by band, where the bands' counts add up to the whole line's.
 use crate::comparison::{Comparison, Drawer, Stored};
 use crate::make::{numbers, raster};
 use crate::random::Random;
@@ -9,13 +9,14 @@ use paper::line::Line;
 use paper::raster::Marks;
 
 const SIDE: i32 = 7;
+const FIRST: i32 = -3;
 const LARGEST: u32 = 4;
 
 /// All windows of these sides that touch the square or stand beside it.
 fn windows_around(width: u32, height: u32) -> Vec<Window> {
     let mut windows = Vec::new();
-    for left in -(width as i32)..=SIDE {
-        for top in -(height as i32)..=SIDE {
+    for left in FIRST - width as i32..=FIRST + SIDE {
+        for top in FIRST - height as i32..=FIRST + SIDE {
             windows.push(window(left, top, width, height));
         }
     }
@@ -33,7 +34,7 @@ fn windows() -> Vec<Window> {
 }
 
 fn all_ends() -> Vec<Ends> {
-    let place = |n: i32| (n % SIDE, n / SIDE);
+    let place = |n: i32| (FIRST + n % SIDE, FIRST + n / SIDE);
     let pair = |n: i32| {
         let ((x0, y0), (x1, y1)) = (place(n % (SIDE * SIDE)), place(n / (SIDE * SIDE)));
         ends(x0, y0, x1, y1)

@@ -227,15 +227,19 @@ const WHOLE: Band = Band { first: 0, rows: 2 };
 
 #[test]
 fn overlapping_lines_count_each_time_and_are_new_once() {
-    // D has (0, 0), (1, 1), (2, 1), E has (2, 1), (1, 0), (0, 0).
+    // D and E both have (0, 0), (1, 1) and (2, 1).
     let mut raster = [0; 2];
     let answer = draw_frame(&THREE, 0, FRAME, WHOLE, &mut raster);
-    assert_eq!((answer, raster), (Ok(Some(marks(6, 4))), [192, 96]));
+    assert_eq!((answer, raster), (Ok(Some(marks(6, 3))), [128, 96]));
     // Row 1 alone, with (1, 1) and the padding marked before.
     let mut raster = [0, 95];
     let band = Band { first: 1, rows: 1 };
     let answer = draw_frame(&THREE, 0, FRAME, band, &mut raster);
-    assert_eq!((answer, raster), (Ok(Some(marks(3, 1))), [0, 127]));
+    assert_eq!((answer, raster), (Ok(Some(marks(4, 1))), [0, 127]));
+    // The second line from (2, 1) to (0, 1) has (2, 1), (1, 1), (0, 1).
+    let mut raster = [0; 2];
+    let answer = draw_frame(&changed(&[(14, 1)]), 0, FRAME, WHOLE, &mut raster);
+    assert_eq!((answer, raster), (Ok(Some(marks(6, 4))), [128, 224]));
 }
 
 #[test]

@@ -11,13 +11,16 @@ const SIDE: u32 = 8192;
 const MOST_RECORDS: usize = 8190;
 const LONG: u32 = 12;
 
-/// Lines over the whole range: diagonal both ways, flat, steep, and with S the half of L.
-const RECORDS: [[i16; 4]; 5] = [
+/// Lines over the whole range: diagonal both ways, flat, steep, and with S the half of L, the short coordinate growing along x
+/// and falling along both axes.
+const RECORDS: [[i16; 4]; 7] = [
     [-16384, -16384, 16383, 16383],
     [16383, -16384, -16384, 16383],
     [16383, 9000, -16384, 8999],
     [100, 16383, 99, -16384],
     [-16384, 0, 16382, 16383],
+    [16383, 16383, -16383, 0],
+    [16383, -16384, 0, 16382],
 ];
 
 const WINDOWS: [Window; 3] = [

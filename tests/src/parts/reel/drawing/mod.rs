@@ -6,7 +6,7 @@ mod largest;
 
 use crate::comparison::reel::Asked;
 use crate::comparison::Comparison;
-use crate::make::{any_pixel, in_range};
+use crate::make::{any_pixel, halved, in_range};
 use crate::parts::reel::fields::{table, Fields};
 use crate::random::Random;
 use paper::frame::{ends, Ends, Pixel};
@@ -73,9 +73,37 @@ fn fields_near(random: &mut Random, at: Pixel, reach: i32) -> Fields {
     Fields::new(lines, table(random, records, frames))
 }
 
+/// A line with both ends at most `reach` from the pixel in each direction; one in four has halves.
 fn record_near(random: &mut Random, at: Pixel, reach: i32) -> [i16; 4] {
-    let places = [at.column, at.row, at.column, at.row];
-    places.map(|place| in_range(place + random.between(-reach, reach)) as i16)
+    let [x0, y0, x1, y1] = if random.one_in(4) {
+        halved_near(random, reach)
+    } else {
+        [(); 4].map(|()| random.between(-reach, reach))
+    };
+    let Pixel { column, row } = at;
+    [column + x0, row + y0, column + x1, row + y1].map(|number| in_range(number) as i16)
+}
+
+/// A line with halves, both ends at most `reach` from (0, 0) in each direction.
+fn halved_near(random: &mut Random, reach: i32) -> [i32; 4] {
+    let (long, short) = halved(random, 2 * reach);
+    let (across, down) = if random.one_in(2) {
+        (long, short)
+    } else {
+        (short, long)
+    };
+    let ([x0, x1], [y0, y1]) = (apart(random, reach, across), apart(random, reach, down));
+    [x0, y0, x1, y1]
+}
+
+/// Two numbers so far apart and at most `reach` from 0, the lower or the higher one first.
+fn apart(random: &mut Random, reach: i32, by: i32) -> [i32; 2] {
+    let lower = random.between(-reach, reach - by);
+    let mut numbers = [lower, lower + by];
+    if random.one_in(2) {
+        numbers.reverse();
+    }
+    numbers
 }
 
 fn ends_of(record: &[i16; 4]) -> Ends {
