@@ -1,5 +1,5 @@
 //! Bresenham's line. A drawer checks its line once and then indexes the raster untested, as a loop in C does. The rounding
-//! is the library's: halves go away from the first end.
+//! is the library's: halves go to the larger coordinate.
 use super::line::Line;
 use crate::c::{Ends, Marks, Window};
 
@@ -42,7 +42,12 @@ fn check_inside(ends: Ends, window: Window, raster: &[u8]) {
 /// share the compiler makes selects of the branch, and the loop takes half as long again.
 #[inline(always)]
 fn each_bit(ends: Ends, window: Window, mut put: impl FnMut(usize)) -> u64 {
-    let Line { long, short, steep } = Line::of(ends);
+    let Line {
+        long,
+        short,
+        steep,
+        mut rest,
+    } = Line::of(ends);
     let row_bits = 8 * window.row_bytes();
     let (right, left) = if ends.x0 < ends.x1 { (1, 0) } else { (0, 1) };
     let (down, up) = if ends.y0 < ends.y1 {
@@ -55,7 +60,6 @@ fn each_bit(ends: Ends, window: Window, mut put: impl FnMut(usize)) -> u64 {
     let column = (ends.x0 - window.left) as usize;
     let row = (ends.y0 - window.top) as usize;
     let mut bit = row * row_bits + column;
-    let mut rest = long;
     let twice = 2 * short;
     let turn = 2 * long - twice;
     let mut step = 0;
@@ -98,10 +102,14 @@ pub fn draw_by_bits_counted(ends: Ends, window: Window, raster: &mut [u8]) -> Ma
 /// Calls `put` with column and row, counted from left and top, of each pixel: Bresenham's loop as it is mostly written.
 #[inline(always)]
 fn each_pixel(ends: Ends, window: Window, mut put: impl FnMut(i32, i32)) {
-    let Line { long, short, steep } = Line::of(ends);
+    let Line {
+        long,
+        short,
+        steep,
+        mut rest,
+    } = Line::of(ends);
     let (right, down) = ((ends.x1 - ends.x0).signum(), (ends.y1 - ends.y0).signum());
     let (mut column, mut row) = (ends.x0 - window.left, ends.y0 - window.top);
-    let mut rest = long;
     for _ in 0..=long {
         put(column, row);
         rest += 2 * short;

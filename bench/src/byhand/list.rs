@@ -39,10 +39,11 @@ fn list_but_last(ends: Ends, line: &Line, list: &mut [i32]) -> i32 {
     let odd = i32::from(half_rest >= short);
     let whole = 2 * half + odd;
     let twice = 2 * (half_rest - odd * short);
+    // The division is of L; the line's decision number is L or one less, so `grow` may find -1 here.
     let mut slice = Slice {
         start: 0,
         end: -half,
-        rest: half_rest,
+        rest: half_rest - (line.long - line.rest) as i32,
     };
     slice.grow(whole, twice, short);
     let mut across = across;
