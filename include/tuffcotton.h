@@ -28,7 +28,9 @@
 extern "C" {
 #endif
 
-/* A line: column and row of the first and of the second end. */
+/* A line: column and row of the first and of the second end. It has a pixel for each step along the larger of both differences,
+ * along x where they are equal. The other coordinate is the whole number nearest to the exact one, a half the larger, so the line
+ * with its ends exchanged has the same pixels. */
 typedef struct { int32_t x0, y0, x1, y1; } tc_ends;
 
 /* The part of the frame that a raster shows: its first column and row, its width and height in pixels. */
@@ -76,7 +78,8 @@ tc_drawn tc_draw_double(tc_ends ends, tc_window window, uint8_t *raster, size_t 
 tc_drawn tc_draw_band(tc_ends ends, tc_window window, uint32_t first, uint32_t rows, uint8_t *raster, size_t len);
 
 /* Writes the line's runs, three numbers to a run (short coordinate, lowest long coordinate, number of pixels), in the line's
- * order from the first end, and leaves the rest of the list. `len` counts numbers. Refuses 1, 5. */
+ * order from the first end, and leaves the rest of the list. With the ends exchanged the same runs come in the reverse order. `len`
+ * counts numbers. Refuses 1, 5. */
 tc_listed tc_list_runs(tc_ends ends, int32_t *list, size_t len);
 
 /* Marks the pixels of a list's first `count` runs that lie in the window, and answers their sum over the runs, an overlap
