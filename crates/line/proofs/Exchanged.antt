@@ -10,10 +10,8 @@ use lib.Signed.{ltZ}
 use Rattle.counting.specs.Count.{any}
 use Rattle.counting.proofs.Boolean.{bool-iff}
 use Rattle.counting.proofs.Any.{any-find, any-make}
-use Rattle.coordinate.specs.Coordinate.{apart, along, same}
+use Rattle.coordinate.specs.Coordinate.{apart, same}
 use Rattle.coordinate.specs.Nearest.{nearest}
-use Rattle.coordinate.specs.declared.Axis.{Axis}
-use Rattle.coordinate.specs.declared.Axis.the-variants.{X, Y}
 use Rattle.coordinate.specs.declared.Pixel.{Pixel}
 use Rattle.coordinate.proofs.Difference.{Diff, above, below, diff-parts, diff-eq, diff-add, diff-minus, diff-plus, diff-less, diff-times, diff-apart, diff-lt, diff-nlt}
 use Rattle.coordinate.proofs.Nearest.{nearest-shift}
@@ -24,27 +22,25 @@ use Rattle.line.specs.Distance.{offset, distance}
 use Rattle.line.specs.Halves.{firstAcross, secondAcross}
 use Rattle.line.specs.Exchanged.{exchanged, SamePixels}
 use Rattle.line.specs.declared.ends.Ends.{Ends}
-use Rattle.line.proofs.Halves.{by-axis, rounds, offset-is}
+use Rattle.line.proofs.Laid.{firstLong, secondLong, laid, pixel-laid, by-axis}
+use Rattle.line.proofs.Halves.{rounds, offset-is}
 use Rattle.line.proofs.Pixels.{short-le, rounding}
 
 -- ---- from b to a
 
 module _ (a b : ℤ) where
-  pub apart-back : apart b a ≡ apart a b
-  apart-back =
-      let A = diff-parts a in
-      let B = diff-parts b in
-      omega (arith, diff-apart a b _ _ _ _ A B, diff-apart b a _ _ _ _ B A)
+  A : Diff a (above a) (below a)
+  A = diff-parts a
+
+  B : Diff b (above b) (below b)
+  B = diff-parts b
+
+  apart-back : apart b a ≡ apart a b
+  apart-back = omega (arith, diff-apart a b _ _ _ _ A B, diff-apart b a _ _ _ _ B A)
 
   pub toward-back : (i j : ℕ) → i + j ≡ apart a b → toward b a i ≡ toward a b j
   toward-back i j e = go (ltZ b a) (ltZ a b) refl refl
     where
-      A : Diff a (above a) (below a)
-      A = diff-parts a
-
-      B : Diff b (above b) (below b)
-      B = diff-parts b
-
       far : i + j ≡ (above b + below a - (below b + above a)) + (below b + above a - (above b + below a))
       far = omega (arith, diff-apart a b _ _ _ _ A B)
 
@@ -58,13 +54,27 @@ module _ (a b : ℤ) where
           diff-eq _ _ _ _ _ _ (diff-plus b _ _ i B) (diff-plus a _ _ j A)
           (omega (arith, far, diff-nlt b a _ _ _ _ B A .0 p, diff-nlt a b _ _ _ _ A B .0 q))
 
+  -- one of the two offsets rounds a half up and the other down, but where there is none
+  opposite-rounds : (L S : ℕ) → S ≡ apart a b → S ≤ L → Opposite (rounds b a L) (rounds a b L) L S
+  opposite-rounds L S z s = go (ltZ a b) (ltZ b a) refl refl
+    where
+      far : S ≡ (above b + below a - (below b + above a)) + (below b + above a - (above b + below a))
+      far = omega (arith, diff-apart a b _ _ _ _ A B)
+
+      go : (t u : Bool) → ltZ a b ≡ t → ltZ b a ≡ u → Opposite (cond t (L - 1) L) (cond u (L - 1) L) L S
+      go true true p q = absurd (omega (arith, diff-lt a b _ _ _ _ A B .0 p, diff-lt b a _ _ _ _ B A .0 q))
+      go true false p q = inl (omega (arith, far, diff-lt a b _ _ _ _ A B .0 p))
+      go false true p q = inl (omega (arith, far, diff-lt b a _ _ _ _ B A .0 q))
+      go false false p q = inr (omega (arith, far, diff-nlt a b _ _ _ _ A B .0 p, diff-nlt b a _ _ _ _ B A .0 q))
+
+  -- the exact coordinate, times the number of steps
   exact-back : (i j : ℕ) → (pos (i + j) *ℤ b +ℤ pos i *ℤ (a -ℤ b)) ≡ (pos (i + j) *ℤ a +ℤ pos j *ℤ (b -ℤ a))
   exact-back i j =
-      let A = diff-parts a in
-      let B = diff-parts b in
+      let from-b = diff-times i (a -ℤ b) _ _ (diff-minus a b _ _ _ _ A B) in
+      let from-a = diff-times j (b -ℤ a) _ _ (diff-minus b a _ _ _ _ B A) in
       diff-eq (pos (i + j) *ℤ b +ℤ pos i *ℤ (a -ℤ b)) (pos (i + j) *ℤ a +ℤ pos j *ℤ (b -ℤ a)) _ _ _ _
-      (diff-add (pos (i + j) *ℤ b) (pos i *ℤ (a -ℤ b)) _ _ _ _ (diff-times (i + j) b _ _ B) (diff-times i (a -ℤ b) _ _ (diff-minus a b _ _ _ _ A B)))
-      (diff-add (pos (i + j) *ℤ a) (pos j *ℤ (b -ℤ a)) _ _ _ _ (diff-times (i + j) a _ _ A) (diff-times j (b -ℤ a) _ _ (diff-minus b a _ _ _ _ B A)))
+      (diff-add (pos (i + j) *ℤ b) (pos i *ℤ (a -ℤ b)) _ _ _ _ (diff-times (i + j) b _ _ B) from-b)
+      (diff-add (pos (i + j) *ℤ a) (pos j *ℤ (b -ℤ a)) _ _ _ _ (diff-times (i + j) a _ _ A) from-a)
       (omega arith)
 
   interpolated-some : (i j : ℕ) → 0 < i + j → interpolated b a (i + j) i ≡ interpolated a b (i + j) j
@@ -76,13 +86,9 @@ module _ (a b : ℤ) where
 
   -- a line of one pixel
   interpolated-none : (n i : ℕ) → apart a b ≡ 0 → interpolated b a n i ≡ interpolated a b n i
-  interpolated-none n i e =
-      let A = diff-parts a in
-      let B = diff-parts b in
-      let z : a ≡ b = diff-eq a b _ _ _ _ A B (omega (arith, diff-apart a b _ _ _ _ A B)) in
-      rw z
+  interpolated-none n i e = let z : a ≡ b = diff-eq a b _ _ _ _ A B (omega (arith, diff-apart a b _ _ _ _ A B)) in rw z
 
-pub interpolated-back : (a b : ℤ) (n i j : ℕ) → i + j ≡ n → apart a b ≤ n → interpolated b a n i ≡ interpolated a b n j
+interpolated-back : (a b : ℤ) (n i j : ℕ) → i + j ≡ n → apart a b ≤ n → interpolated b a n i ≡ interpolated a b n j
 interpolated-back a b zero i j e s =
     let x : i ≡ 0 = omega arith in
     let y : j ≡ 0 = omega arith in
@@ -104,72 +110,46 @@ module _ (e : Ends) where
   unfolding axis
   axis-back = rw (apart-back (e .x0) (e .x1), apart-back (e .y0) (e .y1))
 
-  module _ (i j : ℕ) (q : i + j ≡ long e) where
-    pixel-back : pixel (exchanged e) i ≡ pixel e j
-    unfolding pixel
-    pixel-back = rw (axis-back, long-back) (go (axis e) (by-axis e))
-      where
-        at : ℤ → ℤ → Pixel
-        at column row = record { column = column; row = row }
+  pixel-back : (i j : ℕ) → i + j ≡ long e → pixel (exchanged e) i ≡ pixel e j
+  pixel-back i j q =
+      let a = firstAcross e in
+      let b = secondAcross e in
+      let there = pixel-laid (exchanged e) i in
+      (rw (axis-back, long-back) at there)
+      ∙ ap₂ (laid (axis e))
+      (toward-back (firstLong e) (secondLong e) i j (omega (arith, by-axis e .0)))
+      (interpolated-back a b (long e) i j q (omega (arith, by-axis e .1, short-le e)))
+      ∙ sym (pixel-laid e j)
 
-        go : (a : Axis)
-            → (long e ≡ apart (along a (e .x0) (e .y0)) (along a (e .x1) (e .y1))) × (short e ≡ apart (along a (e .y0) (e .x0)) (along a (e .y1) (e .x1)))
-            → at (along a (toward (e .x1) (e .x0) i) (interpolated (e .x1) (e .x0) (long e) i)) (along a (interpolated (e .y1) (e .y0) (long e) i) (toward (e .y1) (e .y0) i))
-            ≡ at (along a (toward (e .x0) (e .x1) j) (interpolated (e .x0) (e .x1) (long e) j)) (along a (interpolated (e .y0) (e .y1) (long e) j) (toward (e .y0) (e .y1) j))
-        go X w =
-            ap₂ at (toward-back (e .x0) (e .x1) i j (omega (arith, w .0)))
-            (interpolated-back (e .y0) (e .y1) (long e) i j q (omega (arith, w .1, short-le e)))
-        go Y w =
-            ap₂ at (interpolated-back (e .x0) (e .x1) (long e) i j q (omega (arith, w .1, short-le e)))
-            (toward-back (e .y0) (e .y1) i j (omega (arith, w .0)))
-
--- one of the two offsets rounds a half up and the other down, but where there is none
-opposite-rounds : (a b : ℤ) (L S : ℕ) → S ≡ apart a b → S ≤ L → Opposite (rounds b a L) (rounds a b L) L S
-opposite-rounds a b L S z s = go (ltZ a b) (ltZ b a) refl refl
-  where
-    A : Diff a (above a) (below a)
-    A = diff-parts a
-
-    B : Diff b (above b) (below b)
-    B = diff-parts b
-
-    far : S ≡ (above b + below a - (below b + above a)) + (below b + above a - (above b + below a))
-    far = omega (arith, diff-apart a b _ _ _ _ A B)
-
-    go : (t u : Bool) → ltZ a b ≡ t → ltZ b a ≡ u → Opposite (cond t (L - 1) L) (cond u (L - 1) L) L S
-    go true true p q = absurd (omega (arith, diff-lt a b _ _ _ _ A B .0 p, diff-lt b a _ _ _ _ B A .0 q))
-    go true false p q = inl (omega (arith, far, diff-lt a b _ _ _ _ A B .0 p))
-    go false true p q = inl (omega (arith, far, diff-lt b a _ _ _ _ B A .0 q))
-    go false false p q = inr (omega (arith, far, diff-nlt a b _ _ _ _ A B .0 p, diff-nlt b a _ _ _ _ B A .0 q))
-
-module _ (e : Ends) where
   pub opposite : Opposite (offset (exchanged e)) (offset e) (long e) (short e)
   opposite =
       let w = opposite-rounds (firstAcross e) (secondAcross e) (long e) (short e) (by-axis e .1) (short-le e) in
       let o = offset-is (exchanged e) in
-      rw (o, axis-back e, long-back e, offset-is e) w
+      rw (o, axis-back, long-back, offset-is e) w
 
   pub rounding-back : Rounding (offset (exchanged e)) (long e)
-  rounding-back = rw (long-back e) at (rounding (exchanged e))
+  rounding-back = rw (long-back) at (rounding (exchanged e))
 
   distance-back : (i j : ℕ) → i + j ≡ long e → distance (exchanged e) i + distance e j ≡ short e
   unfolding distance
   distance-back i j q =
-      let there = ap₂ (λ (L S : ℕ). m (offset (exchanged e)) L S i) (long-back e) (short-back e) in
+      let there = ap₂ (λ (L S : ℕ). m (offset (exchanged e)) L S i) (long-back) (short-back) in
       omega (arith, m-back rounding-back (rounding e) (short-le e) opposite i j q)
 
   -- a pixel is one of the line's whichever end is first
   on-back : (column row : ℤ) → onLine (exchanged e) column row ≡ onLine e column row
   unfolding onLine
   on-back column row =
-      ap (λ (n : ℕ). any (suc n) there) (long-back e)
+      ap (λ (n : ℕ). any (suc n) there) (long-back)
       ∙ (bool-iff _ _
       (λ t.
       let f = any-find (suc (long e)) there t in
-      any-make (suc (long e)) here (long e - f .0) (omega (arith, f .1)) (ap spot (sym (pixel-back e (f .0) (long e - f .0) (omega (arith, f .1)))) ∙ f .2))
+      any-make (suc (long e)) here (long e - f .0) (omega (arith, f .1))
+      (ap spot (sym (pixel-back (f .0) (long e - f .0) (omega (arith, f .1)))) ∙ f .2))
       (λ t.
       let f = any-find (suc (long e)) here t in
-      any-make (suc (long e)) there (long e - f .0) (omega (arith, f .1)) (ap spot (pixel-back e (long e - f .0) (f .0) (omega (arith, f .1))) ∙ f .2)))
+      any-make (suc (long e)) there (long e - f .0) (omega (arith, f .1))
+      (ap spot (pixel-back (long e - f .0) (f .0) (omega (arith, f .1))) ∙ f .2)))
     where
       spot : Pixel → Bool
       spot p = same (p .column) column && same (p .row) row
@@ -184,10 +164,10 @@ module _ (e : Ends) where
   pub same-pixels : SamePixels e
   same-pixels =
       record {
-        long-is = long-back e;
-        short-is = short-back e;
-        axis-is = axis-back e;
-        pixel-is = λ i q. pixel-back e i (long e - i) (omega arith);
+        long-is = long-back;
+        short-is = short-back;
+        axis-is = axis-back;
+        pixel-is = λ i q. pixel-back i (long e - i) (omega arith);
         distance-is = λ i q. omega (arith, distance-back i (long e - i) (omega arith));
         on-line = on-back;
       }

@@ -1,6 +1,6 @@
 -- On the way from a to b the exact distance is i × S / L in either direction. Where b is above a, the nearest whole number
 -- is the one that m gives with the offset L; below a its negative is so with L − 1, since a half is then rounded down.
-use Prim.Native.Nat.{ℕ, zero, suc, _+_, _-_, _*_, _≤_, min, max}
+use Prim.Native.Nat.{ℕ, zero, suc, _+_, _-_, _*_, _≤_}
 use mathlib.Core.Path.{_≡_, refl, sym, ap, _∙_}
 use mathlib.Core.Bool.{Bool, true, false, cond}
 use native.Mathlib.Omega.{arith}
@@ -8,13 +8,10 @@ use native.Mathlib.Decide.{decLe}
 use native.Mathlib.Nat.{div-zero}
 use lib.IntN.{ℤ, pos, negℤ, _+ℤ_, _-ℤ_, _*ℤ_}
 use lib.Signed.{ltZ}
-use lib.Dec.{ltb}
-use borrow.Author.Tests.{ltb-true, ltb-false}
 use Rattle.coordinate.specs.Coordinate.{apart, along}
 use Rattle.coordinate.specs.Nearest.{floorDiv, nearest, WithinHalf}
 use Rattle.coordinate.specs.declared.Axis.{Axis}
 use Rattle.coordinate.specs.declared.Axis.the-variants.{X, Y}
-use Rattle.coordinate.specs.declared.Pixel.{Pixel}
 use Rattle.coordinate.proofs.Difference.{Diff, diff-parts, diff-move, diff-add, diff-minus, diff-plus, diff-times, diff-neg, diff-pos, diff-eq, diff-apart, diff-lt, diff-nlt}
 use Rattle.coordinate.proofs.Nearest.{nearest-is, nearest-shift, nearest-facts}
 use Rattle.interpolation.specs.Interpolation.{m}
@@ -23,6 +20,7 @@ use Rattle.line.specs.Line.{long, short, axis, toward, interpolated, pix
 use Rattle.line.specs.Distance.{shortFalls, offset, distance, pixelAt}
 use Rattle.line.specs.Halves.{firstAcross, secondAcross, exact, ShortCoordinate, ByDistance}
 use Rattle.line.specs.declared.ends.Ends.{Ends}
+use Rattle.line.proofs.Laid.{firstLong, secondLong, laid, pixel-laid, pixel-at-laid, across-laid, by-axis}
 
 -- ---- from a to b
 
@@ -107,31 +105,12 @@ interpolated-is a b (suc L) i s = interpolated-some a b (suc L) i (omega arith)
 
 -- ---- the line
 
--- L and S by the coordinates along the long axis and across it
-pub by-axis : (e : Ends) → (long e ≡ apart (along (axis e) (e .x0) (e .y0)) (along (axis e) (e .x1) (e .y1)))
-    × (short e ≡ apart (along (axis e) (e .y0) (e .x0)) (along (axis e) (e .y1) (e .x1)))
-unfolding long short axis
-by-axis e = go (ltb (apart (e .x0) (e .x1)) (apart (e .y0) (e .y1))) refl
-  where
-    go : (t : Bool) → ltb (apart (e .x0) (e .x1)) (apart (e .y0) (e .y1)) ≡ t
-        → (max (apart (e .x0) (e .x1)) (apart (e .y0) (e .y1)) ≡ apart (along (cond t Y X) (e .x0) (e .y0)) (along (cond t Y X) (e .x1) (e .y1)))
-        × (min (apart (e .x0) (e .x1)) (apart (e .y0) (e .y1)) ≡ apart (along (cond t Y X) (e .y0) (e .x0)) (along (cond t Y X) (e .y1) (e .x1)))
-    go true q = let o = ltb-true (apart (e .x0) (e .x1)) (apart (e .y0) (e .y1)) q in (omega arith, omega arith)
-    go false q = let o = ltb-false (apart (e .x0) (e .x1)) (apart (e .y0) (e .y1)) q in (omega arith, omega arith)
-
 across-most : (e : Ends) → apart (firstAcross e) (secondAcross e) ≤ long e
 unfolding short long
 across-most e = omega (arith, by-axis e .1)
 
 across-is : (e : Ends) (i : ℕ) → acrossOf e (pixel e i) ≡ interpolated (firstAcross e) (secondAcross e) (long e) i
-unfolding acrossOf pixel
-across-is e i = go (axis e)
-  where
-    go : (a : Axis)
-        → along a (along a (interpolated (e .y0) (e .y1) (long e) i) (toward (e .y0) (e .y1) i)) (along a (toward (e .x0) (e .x1) i) (interpolated (e .x0) (e .x1) (long e) i))
-        ≡ interpolated (along a (e .y0) (e .x0)) (along a (e .y1) (e .x1)) (long e) i
-    go X = refl
-    go Y = refl
+across-is e i = ap (acrossOf e) (pixel-laid e i) ∙ across-laid e _ _
 
 pub offset-is : (e : Ends) → offset e ≡ rounds (firstAcross e) (secondAcross e) (long e)
 unfolding offset shortFalls
@@ -149,18 +128,10 @@ module _ (e : Ends) (i : ℕ) where
       (interpolated-is (firstAcross e) (secondAcross e) (long e) i (across-most e))
 
   pub pixel-is : pixel e i ≡ pixelAt e i (distance e i)
-  unfolding pixel pixelAt
-  pixel-is = go (axis e) across-m
-    where
-      at : ℤ → ℤ → Pixel
-      at column row = record { column = column; row = row }
-
-      go : (a : Axis)
-          → interpolated (along a (e .y0) (e .x0)) (along a (e .y1) (e .x1)) (long e) i ≡ toward (along a (e .y0) (e .x0)) (along a (e .y1) (e .x1)) (distance e i)
-          → at (along a (toward (e .x0) (e .x1) i) (interpolated (e .x0) (e .x1) (long e) i)) (along a (interpolated (e .y0) (e .y1) (long e) i) (toward (e .y0) (e .y1) i))
-          ≡ at (toward (e .x0) (e .x1) (along a i (distance e i))) (toward (e .y0) (e .y1) (along a (distance e i) i))
-      go X w = ap (λ (z : ℤ). at (toward (e .x0) (e .x1) i) z) w
-      go Y w = ap (λ (z : ℤ). at z (toward (e .y0) (e .y1) i)) w
+  pixel-is =
+      pixel-laid e i
+      ∙ ap (laid (axis e) (toward (firstLong e) (secondLong e) i)) across-m
+      ∙ sym (pixel-at-laid e i (distance e i))
 
   pub by-distance : ByDistance e i
   unfolding distance offset

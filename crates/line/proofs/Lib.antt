@@ -1,3 +1,4 @@
+pub mod Laid
 pub mod Halves
 pub mod Pixels
 pub mod Exchanged

@@ -10,7 +10,7 @@ use Rattle.line.specs.Line.{long, short, axis, pixel, acrossOf}
 use Rattle.line.specs.Distance.{shortFalls, distance, pixelAt}
 use Rattle.line.specs.declared.ends.Ends.{Ends}
 
--- the short coordinates of the first end and of the second
+-- the ends' coordinates across the long axis
 abbrev pub firstAcross : Ends → ℤ
 firstAcross e = along (axis e) (e .y0) (e .x0)
 

@@ -14,17 +14,18 @@ use Rattle.coordinate.proofs.Difference.{diff-parts, diff-eq, diff-lt, diff-nlt
 use Rattle.interpolation.specs.Runs.{runFirst, runPixels}
 use Rattle.interpolation.proofs.Exchanged.{first-back, pixels-back}
 use Rattle.runs.specs.Run.{Run}
-use Rattle.line.specs.Line.{long, short, axis, toward, longOf, acrossOf}
+use Rattle.line.specs.Line.{long, short, toward, longOf, acrossOf}
 use Rattle.line.specs.Distance.{offset, pixelAt}
+use Rattle.line.specs.Halves.{firstAcross, secondAcross}
 use Rattle.line.specs.Exchanged.{exchanged}
 use Rattle.line.specs.declared.ends.Ends.{Ends}
-use Rattle.line.proofs.Halves.{by-axis}
+use Rattle.line.proofs.Laid.{firstLong, secondLong, long-at, across-at, by-axis}
 use Rattle.line.proofs.Pixels.{short-le, rounding}
 use Rattle.line.proofs.Exchanged.{toward-back, opposite, rounding-back, same-pixels}
 use Rattle.line_list.specs.Runs.{lower, firstStep, pixelsOf, run}
 use Rattle.line_list.specs.Known.{lies}
 use Rattle.line_list.specs.Exchanged.{RunsReversed}
-use Rattle.line_list.proofs.RunPixels.{long-is, across-is, runs-each, lengths}
+use Rattle.line_list.proofs.RunPixels.{runs-each, lengths}
 
 lower-back : (x y : ℤ) → lower x y ≡ lower y x
 lower-back x y = go (ltZ y x) (ltZ x y) refl refl
@@ -45,17 +46,17 @@ module _ (e : Ends) where
   -- a pixel's coordinates, counted from the other end
   long-back : (i j k l : ℕ) → i + j ≡ long e → longOf (exchanged e) (pixelAt (exchanged e) i k) ≡ longOf e (pixelAt e j l)
   long-back i j k l q =
-      long-is (exchanged e) i k
+      long-at (exchanged e) i k
       ∙ ap (λ (a : Axis). toward (along a (e .x1) (e .y1)) (along a (e .x0) (e .y0)) i) (same-pixels e .axis-is)
-      ∙ toward-back (along (axis e) (e .x0) (e .y0)) (along (axis e) (e .x1) (e .y1)) i j (omega (arith, by-axis e .0))
-      ∙ sym (long-is e j l)
+      ∙ toward-back (firstLong e) (secondLong e) i j (omega (arith, by-axis e .0))
+      ∙ sym (long-at e j l)
 
   across-back : (i j k l : ℕ) → k + l ≡ short e → acrossOf (exchanged e) (pixelAt (exchanged e) i k) ≡ acrossOf e (pixelAt e j l)
   across-back i j k l q =
-      across-is (exchanged e) i k
+      across-at (exchanged e) i k
       ∙ ap (λ (a : Axis). toward (along a (e .y1) (e .x1)) (along a (e .y0) (e .x0)) k) (same-pixels e .axis-is)
-      ∙ toward-back (along (axis e) (e .y0) (e .x0)) (along (axis e) (e .y1) (e .x1)) k l (omega (arith, by-axis e .1))
-      ∙ sym (across-is e j l)
+      ∙ toward-back (firstAcross e) (secondAcross e) k l (omega (arith, by-axis e .1))
+      ∙ sym (across-at e j l)
 
   module _ (k l : ℕ) (q : k + l ≡ short e) where
     pixels-are : pixelsOf (exchanged e) k ≡ pixelsOf e l

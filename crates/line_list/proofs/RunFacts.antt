@@ -36,7 +36,7 @@ use Rattle.line.proofs.Conditions.{ends-in, frame-in}
 use Rattle.line.proofs.Pixels.{distance-max}
 use Rattle.line_list.specs.Runs.{firstStep, pixelsOf, run, runs}
 use Rattle.line_list.specs.Listing.{lineList}
-use Rattle.line_list.specs.RunFacts.{falls, stepOf, Stepped, RunsAreLine, RunsDrawLine, listThen, ReadBack, NoneBad, Painted, ListedAndPainted}
+use Rattle.line_list.specs.RunFacts.{longFalls, stepOf, Stepped, RunsAreLine, RunsDrawLine, listThen, ReadBack, NoneBad, Painted, ListedAndPainted}
 use Rattle.line_list.proofs.RunPixels.{count-turned, runs-each, lengths, stepped, place, step-once, run-long-in, run-across-in}
 
 -- ---- the runs are the line
@@ -109,7 +109,7 @@ module _ (e : Ends) (w : Window) where
   run-count k =
       count-cong (run e k .pixels) _ _ (λ j l. ap (inWindow w) (sym (numbered e k j l .pixel-is)))
       ∙ ap (λ (n : ℕ). count n (λ j. inWindow w (pixel e (stepOf e k j)))) (run-pixels e k)
-      ∙ count-turned (falls e) (pixelsOf e k) (λ j. inWindow w (pixel e (firstStep e k + j)))
+      ∙ count-turned (longFalls e) (pixelsOf e k) (λ j. inWindow w (pixel e (firstStep e k + j)))
 
   runs-count : sum (short e + 1) (λ k. runCount (axis e) (run e k) w) ≡ lineCount e w
   unfolding lineCount

@@ -10,7 +10,6 @@ use Rattle.counting.proofs.Summed.{count-back}
 use Rattle.coordinate.specs.Coordinate.{outOfRange, apart, along}
 use Rattle.coordinate.specs.declared.Axis.{Axis}
 use Rattle.coordinate.specs.declared.Axis.the-variants.{X, Y}
-use Rattle.coordinate.specs.declared.Pixel.{Pixel}
 use Rattle.coordinate.proofs.Difference.{Diff, diff-parts, diff-move, diff-eq, diff-plus, diff-less, diff-lt, diff-nlt, diff-cond}
 use Rattle.coordinate.proofs.Bias.{range-in}
 use Rattle.interpolation.proofs.RunLaws.{first-max}
@@ -20,10 +19,11 @@ use Rattle.runs.specs.Run.{runPixel}
 use Rattle.line.specs.Line.{long, short, axis, toward, longOf, acrossOf, endsOut}
 use Rattle.line.specs.Distance.{offset, distance, pixelAt}
 use Rattle.line.specs.declared.ends.Ends.{Ends}
-use Rattle.line.proofs.Halves.{by-axis, pixel-is}
+use Rattle.line.proofs.Laid.{firstLong, secondLong, laid, laid-self, long-at, across-at, by-axis}
+use Rattle.line.proofs.Halves.{pixel-is}
 use Rattle.line.proofs.Pixels.{short-le, rounding, ended, toward-reached}
 use Rattle.line_list.specs.Runs.{lower, firstStep, pixelsOf, run, runs}
-use Rattle.line_list.specs.RunFacts.{falls, turned, stepOf, Stepped, Once}
+use Rattle.line_list.specs.RunFacts.{longFalls, turned, stepOf, Stepped, Once}
 
 -- ---- turning
 
@@ -73,52 +73,19 @@ from-lowest false a s n j l =
     let low = lower-first (a +ℤ pos s) (a +ℤ pos (s + n - 1)) _ _ _ _ first last (omega arith) in
     diff-eq _ _ _ _ _ _ (diff-plus a _ _ (s + j) (diff-parts a)) (diff-plus (lower (a +ℤ pos s) (a +ℤ pos (s + n - 1))) _ _ j low) (omega arith)
 
--- ---- a pixel by its coordinates along the long axis and across it
+-- ---- run k
 
--- the pixel with two such coordinates
-laid : Axis → ℤ → ℤ → Pixel
-laid a z w = record { column = along a z w; row = along a w z }
-
-module _ (e : Ends) (i k : ℕ) where
-  pub long-is : longOf e (pixelAt e i k) ≡ toward (along (axis e) (e .x0) (e .y0)) (along (axis e) (e .x1) (e .y1)) i
-  unfolding longOf pixelAt
-  long-is = go (axis e)
-    where
-      go : (a : Axis) → along a (toward (e .x0) (e .x1) (along a i k)) (toward (e .y0) (e .y1) (along a k i))
-          ≡ toward (along a (e .x0) (e .y0)) (along a (e .x1) (e .y1)) i
-      go X = refl
-      go Y = refl
-
-  pub across-is : acrossOf e (pixelAt e i k) ≡ toward (along (axis e) (e .y0) (e .x0)) (along (axis e) (e .y1) (e .x1)) k
-  unfolding acrossOf pixelAt
-  across-is = go (axis e)
-    where
-      go : (a : Axis) → along a (toward (e .y0) (e .y1) (along a k i)) (toward (e .x0) (e .x1) (along a i k))
-          ≡ toward (along a (e .y0) (e .x0)) (along a (e .y1) (e .x1)) k
-      go X = refl
-      go Y = refl
-
-pixel-laid : (e : Ends) (p : Pixel) → p ≡ laid (axis e) (longOf e p) (acrossOf e p)
-unfolding longOf acrossOf laid
-pixel-laid e p = go (axis e)
-  where
-    go : (a : Axis) → p ≡ laid a (along a (p .column) (p .row)) (along a (p .row) (p .column))
-    go X = refl
-    go Y = refl
-
-falls-is : (e : Ends) → falls e ≡ ltZ (along (axis e) (e .x1) (e .y1)) (along (axis e) (e .x0) (e .y0))
-unfolding falls
-falls-is e = go (axis e)
+long-falls-is : (e : Ends) → longFalls e ≡ ltZ (secondLong e) (firstLong e)
+unfolding longFalls
+long-falls-is e = go (axis e)
   where
     go : (a : Axis) → along a (ltZ (e .x1) (e .x0)) (ltZ (e .y1) (e .y0)) ≡ ltZ (along a (e .x1) (e .y1)) (along a (e .x0) (e .y0))
     go X = refl
     go Y = refl
 
-long-moved : (e : Ends) (i k : ℕ) → longOf e (pixelAt e i k) ≡ moved (falls e) (along (axis e) (e .x0) (e .y0)) i
+long-moved : (e : Ends) (i k : ℕ) → longOf e (pixelAt e i k) ≡ moved (longFalls e) (firstLong e) i
 unfolding moved
-long-moved e i k = long-is e i k ∙ rw (falls-is e)
-
--- ---- run k
+long-moved e i k = long-at e i k ∙ rw (long-falls-is e)
 
 -- the runs stand in the line's order from the first end
 pub runs-each : (e : Ends) → runs e ≡ each (short e + 1) (run e)
@@ -132,25 +99,23 @@ module _ (e : Ends) (k j : ℕ) (l : j < pixelsOf e k) where
   run-long : longOf e (pixelAt e (stepOf e k j) k) ≡ run e k .lowest +ℤ pos j
   unfolding run stepOf
   run-long =
-      let a = along (axis e) (e .x0) (e .y0) in
       let s = firstStep e k in
       let n = pixelsOf e k in
-      long-moved e (s + turned (falls e) n j) k
-      ∙ from-lowest (falls e) a s n j l
+      long-moved e (s + turned (longFalls e) n j) k
+      ∙ from-lowest (longFalls e) (firstLong e) s n j l
       ∙ ap₂ (λ (z w : ℤ). lower z w +ℤ pos j) (sym (long-moved e s k)) (sym (long-moved e (s + n - 1) k))
 
   run-across : acrossOf e (pixelAt e (stepOf e k j) k) ≡ run e k .across
   unfolding run
-  run-across = across-is e (stepOf e k j) k ∙ sym (across-is e (firstStep e k) k)
+  run-across = across-at e (stepOf e k j) k ∙ sym (across-at e (firstStep e k) k)
 
   -- number j of the run is the pixel of its step
   run-pixel : pixelAt e (stepOf e k j) k ≡ runPixel (axis e) (run e k) j
-  unfolding laid
-  run-pixel = pixel-laid e (pixelAt e (stepOf e k j) k) ∙ ap₂ (laid (axis e)) run-long run-across
+  run-pixel = laid-self e (pixelAt e (stepOf e k j) k) ∙ ap₂ (laid (axis e)) run-long run-across
 
   step-in : (firstStep e k ≤ stepOf e k j) × (stepOf e k j < firstStep e k + pixelsOf e k)
   unfolding stepOf
-  step-in = (omega arith, omega (arith, turned-lt (falls e) (pixelsOf e k) j l))
+  step-in = (omega arith, omega (arith, turned-lt (longFalls e) (pixelsOf e k) j l))
 
   step-on : stepOf e k j ≤ long e
   step-on = omega (arith, step-in, lengths e .follows k, first-max (rounding e) (short-le e) (k + 1))
@@ -174,12 +139,12 @@ module _ (e : Ends) (i k : ℕ) (p : i ≤ long e) (q : distance e i ≡ k) wher
   from-first = let w = lengths e .steps i k p .0 q in (w .0, omega (arith, w .1, lengths e .follows k))
 
   pub place : ℕ
-  place = turned (falls e) (pixelsOf e k) (i - firstStep e k)
+  place = turned (longFalls e) (pixelsOf e k) (i - firstStep e k)
 
   pub step-once : Once e k i place
   unfolding place stepOf
   step-once =
-      let f = falls e in
+      let f = longFalls e in
       let n = pixelsOf e k in
       let lt : i - firstStep e k < n = omega (arith, from-first) in
       record {
@@ -204,13 +169,13 @@ module _ (e : Ends) (p : endsOut e ≡ false) (i k : ℕ) (li : i ≤ long e) (l
   long-in : outOfRange (longOf e (pixelAt e i k)) ≡ false
   long-in =
       let r = ended e p in
-      rw (long-is e i k)
+      rw (long-at e i k)
       (toward-in _ _ i (along-in (axis e) _ _ (r .x0-in) (r .y0-in)) (along-in (axis e) _ _ (r .x1-in) (r .y1-in)) (omega (arith, by-axis e .0)))
 
   across-in : outOfRange (acrossOf e (pixelAt e i k)) ≡ false
   across-in =
       let r = ended e p in
-      rw (across-is e i k)
+      rw (across-at e i k)
       (toward-in _ _ k (along-in (axis e) _ _ (r .y0-in) (r .x0-in)) (along-in (axis e) _ _ (r .y1-in) (r .x1-in)) (omega (arith, by-axis e .1)))
 
 -- a run's coordinates are in range

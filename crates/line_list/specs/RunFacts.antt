@@ -24,9 +24,9 @@ use Rattle.line_list.specs.Runs.{firstStep, pixelsOf, run, runs}
 use Rattle.line_list.specs.Listing.{lineList}
 
 -- the long coordinate falls from the first end to the second
-unfoldable pub falls : Ends → Bool
+unfoldable pub longFalls : Ends → Bool
 unfolding axis
-falls e = along (axis e) (ltZ (e .x1) (e .x0)) (ltZ (e .y1) (e .y0))
+longFalls e = along (axis e) (ltZ (e .x1) (e .x0)) (ltZ (e .y1) (e .y0))
 
 -- number j of n, or number j from the last one back
 abbrev pub turned : Bool → ℕ → ℕ → ℕ
@@ -34,8 +34,8 @@ turned back n j = cond back (n - 1 - j) j
 
 -- the step whose pixel is j away from the lowest of run k
 unfoldable pub stepOf : Ends → ℕ → ℕ → ℕ
-unfolding falls
-stepOf e k j = firstStep e k + turned (falls e) (pixelsOf e k) j
+unfolding longFalls
+stepOf e k j = firstStep e k + turned (longFalls e) (pixelsOf e k) j
 
 -- number j of run k is the pixel of step i, which is the line's and has the short distance k
 pub record Stepped (e : Ends) (k j i : ℕ) : Type 0 where
