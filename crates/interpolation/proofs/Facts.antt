@@ -8,7 +8,7 @@ use native.Mathlib.Nat.{add-zero, mul-le-mul-left}
 use lib.IntN.{ℤ, pos}
 use Rattle.coordinate.proofs.Difference.{diff-pos, diff-apart}
 use Rattle.interpolation.specs.Interpolation.{m, Rounding}
-use Rattle.interpolation.specs.Facts.{HalfPixel, Pair, ShallowPair, SteepPair, DoubleStep, RunLengths}
+use Rattle.interpolation.specs.Facts.{HalfPixel, Pair, ShallowPair, SteepPair, PairsOfSteps, RunLengths}
 use Rattle.interpolation.proofs.Laws.{at-m}
 use Rattle.interpolation.proofs.DoubleStep.{Two, Below, below-lt, below-le, shallow-two-flat, shallow-flat-first, shallow-diagonal-first}
 use Rattle.interpolation.proofs.DoubleStep.{steep-two-diagonal, steep-flat-first, steep-diagonal-first}
@@ -34,7 +34,7 @@ pair w = record { middle = w .middle .short; end = w .end .short }
 
 -- D's tests tell the two steps of each pair, whichever way a half goes
 module _ {below : ℤ → ℤ → Bool} {t : ℕ} (B : Below below t) {h L S j : ℕ} (e : h + t ≡ L) where
-  pub shallow-pair : 2 * S < L → ShallowPair below h L S j
+  shallow-pair : 2 * S < L → ShallowPair below h L S j
   shallow-pair g =
       record {
         two-flat = λ x. pair (shallow-two-flat B h L S e g j x);
@@ -42,7 +42,7 @@ module _ {below : ℤ → ℤ → Bool} {t : ℕ} (B : Below below t) {h L S j :
         diagonal-first = λ x y. pair (shallow-diagonal-first B h L S e g j y);
       }
 
-  pub steep-pair : 1 ≤ L → S ≤ L → L ≤ 2 * S → SteepPair below h L S j
+  steep-pair : 1 ≤ L → S ≤ L → L ≤ 2 * S → SteepPair below h L S j
   steep-pair l s g =
       record {
         two-diagonal = λ x. pair (steep-two-diagonal B h L S e l s g j x);
@@ -50,8 +50,8 @@ module _ {below : ℤ → ℤ → Bool} {t : ℕ} (B : Below below t) {h L S j :
         diagonal-first = λ x y. pair (steep-diagonal-first B h L S e l s g j x y);
       }
 
-pub double-step : {L S : ℕ} → 1 ≤ L → S ≤ L → DoubleStep L S
-double-step {L} {S} l s =
+pub pairs-of-steps : {L S : ℕ} → 1 ≤ L → S ≤ L → PairsOfSteps L S
+pairs-of-steps {L} {S} l s =
     let less : L - 1 + 1 ≡ L = omega arith in
     record {
       shallow-rising = λ j g. shallow-pair below-lt (add-zero L) g;

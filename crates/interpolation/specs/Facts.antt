@@ -35,7 +35,7 @@ pub record SteepPair (below : ℤ → ℤ → Bool) (h L S j : ℕ) : Type 0 whe
   pub diagonal-first : below (steep below L S j) (pos 0) ≡ true → below (steep below L S j) (pos 2 *ℤ (pos S -ℤ pos L)) ≡ false → Pair h L S j 1 1
 
 -- both at every pair, where the short coordinate rises or stays and where it falls
-pub record DoubleStep (L S : ℕ) : Type 0 where
+pub record PairsOfSteps (L S : ℕ) : Type 0 where
   pub shallow-rising : (j : ℕ) → 2 * S < L → ShallowPair ltZ L L S j
   pub shallow-falling : (j : ℕ) → 2 * S < L → ShallowPair leZ (L - 1) L S j
   pub steep-rising : (j : ℕ) → L ≤ 2 * S → SteepPair ltZ L L S j

@@ -19,11 +19,11 @@ use Rattle.interpolation.specs.Interpolation.{m, Rounding}
 use Rattle.interpolation.proofs.Exchanged.{Opposite, m-back}
 use Rattle.line.specs.Line.{long, short, axis, toward, interpolated, pixel, onLine}
 use Rattle.line.specs.Distance.{offset, distance}
-use Rattle.line.specs.Halves.{firstAcross, secondAcross}
+use Rattle.line.specs.PixelFacts.{firstLong, secondLong, firstAcross, secondAcross}
 use Rattle.line.specs.Exchanged.{exchanged, SamePixels}
 use Rattle.line.specs.declared.ends.Ends.{Ends}
-use Rattle.line.proofs.Laid.{firstLong, secondLong, laid, pixel-laid, by-axis}
-use Rattle.line.proofs.Halves.{rounds, offset-is}
+use Rattle.line.proofs.Laid.{laid, pixel-laid, by-axis}
+use Rattle.line.proofs.Halves.{offsetFor, offset-is}
 use Rattle.line.proofs.Pixels.{short-le, rounding}
 
 -- ---- from b to a
@@ -54,9 +54,9 @@ module _ (a b : ℤ) where
           diff-eq _ _ _ _ _ _ (diff-plus b _ _ i B) (diff-plus a _ _ j A)
           (omega (arith, far, diff-nlt b a _ _ _ _ B A .0 p, diff-nlt a b _ _ _ _ A B .0 q))
 
-  -- one of the two offsets rounds a half up and the other down, but where there is none
-  opposite-rounds : (L S : ℕ) → S ≡ apart a b → S ≤ L → Opposite (rounds b a L) (rounds a b L) L S
-  opposite-rounds L S z s = go (ltZ a b) (ltZ b a) refl refl
+  -- one of the two offsets offsetFor a half up and the other down, but where there is none
+  opposite-offsetFor : (L S : ℕ) → S ≡ apart a b → S ≤ L → Opposite (offsetFor b a L) (offsetFor a b L) L S
+  opposite-offsetFor L S z s = go (ltZ a b) (ltZ b a) refl refl
     where
       far : S ≡ (above b + below a - (below b + above a)) + (below b + above a - (above b + below a))
       far = omega (arith, diff-apart a b _ _ _ _ A B)
@@ -123,7 +123,7 @@ module _ (e : Ends) where
 
   pub opposite : Opposite (offset (exchanged e)) (offset e) (long e) (short e)
   opposite =
-      let w = opposite-rounds (firstAcross e) (secondAcross e) (long e) (short e) (by-axis e .1) (short-le e) in
+      let w = opposite-offsetFor (firstAcross e) (secondAcross e) (long e) (short e) (by-axis e .1) (short-le e) in
       let o = offset-is (exchanged e) in
       rw (o, axis-back, long-back, offset-is e) w
 
@@ -168,6 +168,6 @@ module _ (e : Ends) where
         short-is = short-back;
         axis-is = axis-back;
         pixel-is = λ i q. pixel-back i (long e - i) (omega arith);
-        distance-is = λ i q. omega (arith, distance-back i (long e - i) (omega arith));
+        distance-is = λ i q. distance-back i (long e - i) (omega arith);
         on-line = on-back;
       }

@@ -4,29 +4,28 @@ use Prim.Native.Nat.{ℕ, zero, suc, _+_, _-_, _*_, _≤_}
 use mathlib.Core.Path.{_≡_, refl, sym, ap, _∙_}
 use mathlib.Core.Bool.{Bool, true, false, cond}
 use native.Mathlib.Omega.{arith}
-use native.Mathlib.Decide.{decLe}
 use native.Mathlib.Nat.{div-zero}
 use lib.IntN.{ℤ, pos, negℤ, _+ℤ_, _-ℤ_, _*ℤ_}
 use lib.Signed.{ltZ}
 use Rattle.coordinate.specs.Coordinate.{apart, along}
-use Rattle.coordinate.specs.Nearest.{floorDiv, nearest, WithinHalf}
+use Rattle.coordinate.specs.Nearest.{floorDiv, nearest}
 use Rattle.coordinate.specs.declared.Axis.{Axis}
 use Rattle.coordinate.specs.declared.Axis.the-variants.{X, Y}
-use Rattle.coordinate.proofs.Difference.{Diff, diff-parts, diff-move, diff-add, diff-minus, diff-plus, diff-times, diff-neg, diff-pos, diff-eq, diff-apart, diff-lt, diff-nlt}
-use Rattle.coordinate.proofs.Nearest.{nearest-is, nearest-shift, nearest-facts}
+use Rattle.coordinate.proofs.Difference.{Diff, diff-parts, diff-move, diff-minus, diff-plus, diff-times, diff-neg, diff-pos, diff-eq, diff-apart, diff-lt, diff-nlt}
+use Rattle.coordinate.proofs.Nearest.{nearest-is}
 use Rattle.interpolation.specs.Interpolation.{m}
 use Rattle.interpolation.proofs.Laws.{at-m, m-point}
-use Rattle.line.specs.Line.{long, short, axis, toward, interpolated, pixel, acrossOf}
+use Rattle.line.specs.Line.{long, short, axis, toward, interpolated, pixel}
 use Rattle.line.specs.Distance.{shortFalls, offset, distance, pixelAt}
-use Rattle.line.specs.Halves.{firstAcross, secondAcross, exact, ShortCoordinate, ByDistance}
+use Rattle.line.specs.PixelFacts.{firstLong, secondLong, firstAcross, secondAcross}
 use Rattle.line.specs.declared.ends.Ends.{Ends}
-use Rattle.line.proofs.Laid.{firstLong, secondLong, laid, pixel-laid, pixel-at-laid, across-laid, by-axis}
+use Rattle.line.proofs.Laid.{laid, pixel-laid, pixel-at-laid, by-axis}
 
 -- ---- from a to b
 
 -- the offset for the way from a to b
-abbrev pub rounds : ℤ → ℤ → ℕ → ℕ
-rounds a b L = cond (ltZ b a) (L - 1) L
+abbrev pub offsetFor : ℤ → ℤ → ℕ → ℕ
+offsetFor a b L = cond (ltZ b a) (L - 1) L
 
 module _ (a b : ℤ) where
   up : ltZ b a ≡ false → Diff (b -ℤ a) (apart a b) 0
@@ -58,7 +57,7 @@ module _ (a b : ℤ) where
         (nearest-is (pos i *ℤ (b -ℤ a)) (negℤ (pos k)) L _ _ 0 k (omega arith) (diff-times i (b -ℤ a) _ _ (down t))
         (diff-neg (pos k) k 0 (diff-pos k)) (omega (arith, x .eq, x .lt)) (omega (arith, x .eq, x .lt)))
 
-    interpolated-some : interpolated a b L i ≡ toward a b (m (rounds a b L) L (apart a b) i)
+    interpolated-some : interpolated a b L i ≡ toward a b (m (offsetFor a b L) L (apart a b) i)
     unfolding interpolated
     interpolated-some = go (ltZ b a) refl
       where
@@ -70,7 +69,7 @@ module _ (a b : ℤ) where
 
 -- ---- a line of one pixel
 
-no-gap : (a b : ℤ) → apart a b ≡ 0 → Diff (b -ℤ a) 0 0
+pub no-gap : (a b : ℤ) → apart a b ≡ 0 → Diff (b -ℤ a) 0 0
 no-gap a b s =
     let A = diff-parts a in
     let B = diff-parts b in
@@ -83,13 +82,13 @@ nearest-none z i e = rw e (ap pos (div-zero (2 * (i * 0) + 0)))
 none : (a b : ℤ) (i : ℕ) → apart a b ≡ 0 → nearest (pos i *ℤ (b -ℤ a)) 0 ≡ pos 0
 none a b i s = nearest-none (b -ℤ a) i (diff-eq (b -ℤ a) (pos 0) 0 0 0 0 (no-gap a b s) (diff-pos 0) refl)
 
-interpolated-first : (a b : ℤ) (i : ℕ) → apart a b ≡ 0 → interpolated a b 0 i ≡ a
+pub interpolated-first : (a b : ℤ) (i : ℕ) → apart a b ≡ 0 → interpolated a b 0 i ≡ a
 unfolding interpolated
 interpolated-first a b i s =
     let A = diff-parts a in
     ap (λ (z : ℤ). a +ℤ z) (none a b i s) ∙ diff-eq (a +ℤ pos 0) a _ _ _ _ (diff-plus a _ _ 0 A) A (omega arith)
 
-interpolated-none : (a b : ℤ) (i : ℕ) → apart a b ≡ 0 → interpolated a b 0 i ≡ toward a b (m (rounds a b 0) 0 (apart a b) i)
+interpolated-none : (a b : ℤ) (i : ℕ) → apart a b ≡ 0 → interpolated a b 0 i ≡ toward a b (m (offsetFor a b 0) 0 (apart a b) i)
 unfolding interpolated
 interpolated-none a b i s = go (ltZ b a) refl
   where
@@ -99,24 +98,21 @@ interpolated-none a b i s = go (ltZ b a) refl
     go true t = absurd (omega (arith, diff-lt b a _ _ _ _ (diff-parts b) (diff-parts a) .0 t, diff-apart a b _ _ _ _ (diff-parts a) (diff-parts b)))
     go false t = ap (λ (z : ℤ). a +ℤ z) (none a b i s ∙ ap pos (sym (m-point 0 (apart a b) i)))
 
-pub interpolated-is : (a b : ℤ) (L i : ℕ) → apart a b ≤ L → interpolated a b L i ≡ toward a b (m (rounds a b L) L (apart a b) i)
+interpolated-is : (a b : ℤ) (L i : ℕ) → apart a b ≤ L → interpolated a b L i ≡ toward a b (m (offsetFor a b L) L (apart a b) i)
 interpolated-is a b zero i s = interpolated-none a b i (omega arith)
 interpolated-is a b (suc L) i s = interpolated-some a b (suc L) i (omega arith)
 
 -- ---- the line
 
-across-most : (e : Ends) → apart (firstAcross e) (secondAcross e) ≤ long e
+pub across-most : (e : Ends) → apart (firstAcross e) (secondAcross e) ≤ long e
 unfolding short long
 across-most e = omega (arith, by-axis e .1)
 
-across-is : (e : Ends) (i : ℕ) → acrossOf e (pixel e i) ≡ interpolated (firstAcross e) (secondAcross e) (long e) i
-across-is e i = ap (acrossOf e) (pixel-laid e i) ∙ across-laid e _ _
-
-pub offset-is : (e : Ends) → offset e ≡ rounds (firstAcross e) (secondAcross e) (long e)
+pub offset-is : (e : Ends) → offset e ≡ offsetFor (firstAcross e) (secondAcross e) (long e)
 unfolding offset shortFalls
 offset-is e = go (axis e)
   where
-    go : (a : Axis) → cond (along a (ltZ (e .y1) (e .y0)) (ltZ (e .x1) (e .x0))) (long e - 1) (long e) ≡ rounds (along a (e .y0) (e .x0)) (along a (e .y1) (e .x1)) (long e)
+    go : (a : Axis) → cond (along a (ltZ (e .y1) (e .y0)) (ltZ (e .x1) (e .x0))) (long e - 1) (long e) ≡ offsetFor (along a (e .y0) (e .x0)) (along a (e .y1) (e .x1)) (long e)
     go X = refl
     go Y = refl
 
@@ -132,45 +128,3 @@ module _ (e : Ends) (i : ℕ) where
       pixel-laid e i
       ∙ ap (laid (axis e) (toward (firstLong e) (secondLong e) i)) across-m
       ∙ sym (pixel-at-laid e i (distance e i))
-
-  pub by-distance : ByDistance e i
-  unfolding distance offset
-  by-distance = record { pixel-is = pixel-is; rising = λ f. rw f; falling = λ f. rw f }
-
-  module _ (l : 1 ≤ long e) where
-    nearest-one : acrossOf e (pixel e i) ≡ nearest (exact e i) (long e)
-    unfolding interpolated
-    nearest-one = across-is e i ∙ sym (nearest-shift (firstAcross e) (pos i *ℤ (secondAcross e -ℤ firstAcross e)) (long e) l)
-
-    within-half : WithinHalf (exact e i) (long e) (acrossOf e (pixel e i))
-    within-half = rw nearest-one (nearest-facts (exact e i) (long e) l .within)
-
-    half-some : 2 * apart (pos (long e) *ℤ acrossOf e (pixel e i)) (exact e i) ≤ long e
-    half-some = rw nearest-one (nearest-facts (exact e i) (long e) l .half)
-
-  module _ (l : long e ≡ 0) where
-    one-pixel : acrossOf e (pixel e i) ≡ firstAcross e
-    one-pixel =
-        across-is e i
-        ∙ ap (λ (n : ℕ). interpolated (firstAcross e) (secondAcross e) n i) l
-        ∙ interpolated-first (firstAcross e) (secondAcross e) i (omega (arith, across-most e))
-
-    half-none : 2 * apart (pos (long e) *ℤ acrossOf e (pixel e i)) (exact e i) ≤ long e
-    half-none =
-        let a = firstAcross e in
-        let b = secondAcross e in
-        let p = acrossOf e (pixel e i) in
-        let P = diff-times 0 p _ _ (diff-parts p) in
-        let G = diff-times i (b -ℤ a) 0 0 (no-gap a b (omega (arith, across-most e))) in
-        let E = diff-add (pos 0 *ℤ a) (pos i *ℤ (b -ℤ a)) _ _ _ _ (diff-times 0 a _ _ (diff-parts a)) G in
-        rw l (omega (arith, diff-apart (pos 0 *ℤ p) (pos 0 *ℤ a +ℤ pos i *ℤ (b -ℤ a)) _ _ _ _ P E))
-
-  -- the short coordinate is the nearest whole number to the exact one, a half to the larger
-  pub short-coordinate : ShortCoordinate e i
-  short-coordinate =
-      record {
-        nearest-is = nearest-one;
-        within = within-half;
-        one-pixel = one-pixel;
-        half-pixel = elim (decLe 1 (long e)) [ yes l ↦ half-some l | no l ↦ half-none (omega arith) ];
-      }

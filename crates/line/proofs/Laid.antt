@@ -12,15 +12,8 @@ use Rattle.coordinate.specs.declared.Axis.the-variants.{X, Y}
 use Rattle.coordinate.specs.declared.Pixel.{Pixel}
 use Rattle.line.specs.Line.{long, short, axis, toward, interpolated, pixel, longOf, acrossOf}
 use Rattle.line.specs.Distance.{pixelAt}
-use Rattle.line.specs.Halves.{firstAcross, secondAcross}
+use Rattle.line.specs.PixelFacts.{firstLong, secondLong, firstAcross, secondAcross}
 use Rattle.line.specs.declared.ends.Ends.{Ends}
-
--- the ends' coordinates along the long axis
-abbrev pub firstLong : Ends → ℤ
-firstLong e = along (axis e) (e .x0) (e .y0)
-
-abbrev pub secondLong : Ends → ℤ
-secondLong e = along (axis e) (e .x1) (e .y1)
 
 -- the pixel with these coordinates along an axis and across it
 abbrev pub laid : Axis → ℤ → ℤ → Pixel

@@ -1,6 +1,6 @@
 pub mod Line
 pub mod Distance
-pub mod Halves
+pub mod PixelFacts
 pub mod Exchanged
 pub mod Drawing
 pub mod Trace

@@ -3,7 +3,7 @@ use crate::ends::Ends;
 use coordinate::Coordinate;
 ghost use mathlib.Core.Path.{_≡_};
 ghost use mathlib.Core.Bool.{false, cond};
-ghost use Prim.Native.Nat.{_+_, _-_, _≤_};
+ghost use Prim.Native.Nat.{_+_, _-_};
 ghost use Rattle.line.specs.Line.{endsOut};
 ghost use Rattle.line.specs.Trace.{Traced};
 
@@ -28,11 +28,14 @@ fn distance(a: u32, b: u32) -> u32
 }
 
 // What m is rounded by: a half goes to the larger coordinate, which is nearer the first end where the short one falls.
+// A line of one pixel has no half.
 fn half_of(rises: bool, long: u32) -> u32
-    requires { ⌜ (rises ≡ false → 1 ≤ long) ⌝ }
     ensures { λ r. ⌜ r ≡ cond rises long (long - 1) ⌝ }
 {
-    if rises { long } else { long - 1 }
+    if rises {
+        return long;
+    }
+    if long == 0 { 0 } else { long - 1 }
 }
 
 // The line between two ends that are within the limits.

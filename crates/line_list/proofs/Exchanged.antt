@@ -16,14 +16,13 @@ use Rattle.interpolation.proofs.Exchanged.{first-back, pixels-back}
 use Rattle.runs.specs.Run.{Run}
 use Rattle.line.specs.Line.{long, short, toward, longOf, acrossOf}
 use Rattle.line.specs.Distance.{offset, pixelAt}
-use Rattle.line.specs.Halves.{firstAcross, secondAcross}
+use Rattle.line.specs.PixelFacts.{firstLong, secondLong, firstAcross, secondAcross}
 use Rattle.line.specs.Exchanged.{exchanged}
 use Rattle.line.specs.declared.ends.Ends.{Ends}
-use Rattle.line.proofs.Laid.{firstLong, secondLong, long-at, across-at, by-axis}
+use Rattle.line.proofs.Laid.{long-at, across-at, by-axis}
 use Rattle.line.proofs.Pixels.{short-le, rounding}
 use Rattle.line.proofs.Exchanged.{toward-back, opposite, rounding-back, same-pixels}
-use Rattle.line_list.specs.Runs.{lower, firstStep, pixelsOf, run}
-use Rattle.line_list.specs.Known.{lies}
+use Rattle.line_list.specs.Runs.{lies, lower, firstStep, pixelsOf, run}
 use Rattle.line_list.specs.Exchanged.{RunsReversed}
 use Rattle.line_list.proofs.RunPixels.{runs-each, lengths}
 

@@ -10,7 +10,7 @@ use Rattle.line.specs.Line.{long, short, axis, interpolated, pixel, onLine, lon
 use Rattle.line.specs.Distance.{shortFalls, offset, distance, pixelAt}
 use Rattle.line.specs.Drawing.{lineCount, lineFresh, lineRaster}
 use Rattle.line_list.specs.Runs.{run, runs}
-use Rattle.line_list.specs.Known.{Lettered, LetteredNew, LetteredHalves, codes}
+use Rattle.line_list.specs.Known.{Lettered, LetteredNew, KnownHalves, codes}
 
 pub lettered : Lettered
 unfolding any count each m runFirst runPixels worth bit byte over bitHas plus inWindow floorDiv nearest long short axis interpolated pixel onLine shortFalls offset distance pixelAt longOf acrossOf run runs lineCount lineRaster codes
@@ -18,7 +18,7 @@ lettered =
     record {
       A = (refl, refl);
       B = refl;
-      C = refl;
+      C = (refl, refl);
       D = refl;
       E = refl;
       F = refl;
@@ -33,9 +33,9 @@ pub lettered-new : LetteredNew
 unfolding any count sum worth bit marked freshCount floorDiv nearest long short axis interpolated pixel onLine lineFresh
 lettered-new = record { D = refl; E = refl; J = refl; K = refl }
 
-pub lettered-halves : LetteredHalves
+pub known-halves : KnownHalves
 unfolding each floorDiv nearest long axis interpolated pixel
-lettered-halves =
+known-halves =
     record {
       right-down = refl;
       right-up = refl;

@@ -8,20 +8,15 @@ use Rattle.counting.specs.Count.{each}
 use Rattle.coordinate.specs.declared.Pixel.{Pixel}
 use Rattle.coordinate.specs.declared.Axis.the-variants.{X, Y}
 use Rattle.raster.specs.declared.window.Window.{Window}
-use Rattle.runs.specs.Run.{Run}
 use Rattle.line.specs.Line.{long, axis, pixel}
 use Rattle.line.specs.Distance.{distance}
 use Rattle.line.specs.Drawing.{lineCount, lineFresh, lineRaster}
 use Rattle.line.specs.declared.ends.Ends.{Ends}
-use Rattle.line_list.specs.Runs.{runs}
+use Rattle.line_list.specs.Runs.{lies, runs}
 
 -- from column a and row b to column c and row d
 abbrev pub from : ℤ → ℤ → ℤ → ℤ → Ends
 from a b c d = record { x0 = a; y0 = b; x1 = c; y1 = d }
-
--- a run, as a run list has it
-abbrev pub lies : ℤ → ℤ → ℕ → Run
-lies across lowest pixels = record { across = across; lowest = lowest; pixels = pixels }
 
 abbrev pub at : ℤ → ℤ → Pixel
 at column row = record { column = column; row = row }
@@ -46,8 +41,9 @@ lineH = from (pos 0) (pos 0) (pos 11) (pos 3)
 pub record Lettered : Type 0 where
   pub A : (axis (from (pos 5) (pos 5) (pos 5) (pos 5)) ≡ X) × (runs (from (pos 5) (pos 5) (pos 5) (pos 5)) ≡ lies (pos 5) (pos 5) 1 ∷ [])
   pub B : runs (from (pos 0) (pos 0) (pos 10) (pos 0)) ≡ lies (pos 0) (pos 0) 11 ∷ []
-  pub C : runs (from (pos 0) (pos 0) (pos 3) (pos 3))
-      ≡ lies (pos 0) (pos 0) 1 ∷ lies (pos 1) (pos 1) 1 ∷ lies (pos 2) (pos 2) 1 ∷ lies (pos 3) (pos 3) 1 ∷ []
+  pub C : (axis (from (pos 0) (pos 0) (pos 3) (pos 3)) ≡ X)
+      × (runs (from (pos 0) (pos 0) (pos 3) (pos 3))
+      ≡ lies (pos 0) (pos 0) 1 ∷ lies (pos 1) (pos 1) 1 ∷ lies (pos 2) (pos 2) 1 ∷ lies (pos 3) (pos 3) 1 ∷ [])
   pub D : pixel (from (pos 0) (pos 0) (pos 2) (pos 1)) 1 ≡ at (pos 1) (pos 1)
   pub E : pixel (from (pos 2) (pos 1) (pos 0) (pos 0)) 1 ≡ at (pos 1) (pos 1)
   pub F : each 5 (λ i. pixel (from (pos 0) (pos 0) (pos 4) (pos 2)) i .row) ≡ pos 0 ∷ pos 1 ∷ pos 1 ∷ pos 2 ∷ pos 2 ∷ []
@@ -71,9 +67,9 @@ pub record LetteredNew : Type 0 where
   -- none of line K's over itself
   pub K : lineFresh lineH (sized 12 4) (192 ∷ 0 ∷ 60 ∷ 0 ∷ 3 ∷ 192 ∷ 0 ∷ 48 ∷ []) ≡ 0
 
--- the pixel between the ends of each line from (0,0) with L = 2 and S = 1: its exact short coordinate is 1/2, which goes to 1,
--- or −1/2, which goes to 0
-pub record LetteredHalves : Type 0 where
+-- the pixel between the ends of each line from (0,0) with L = 2 and S = 1, named by the direction along the long axis and then
+-- the other: its exact short coordinate is 1/2, which goes to 1, or −1/2, which goes to 0
+pub record KnownHalves : Type 0 where
   pub right-down : pixel (from (pos 0) (pos 0) (pos 2) (pos 1)) 1 ≡ at (pos 1) (pos 1)
   pub right-up : pixel (from (pos 0) (pos 0) (pos 2) (minus 1)) 1 ≡ at (pos 1) (pos 0)
   pub left-down : pixel (from (pos 0) (pos 0) (minus 2) (pos 1)) 1 ≡ at (minus 1) (pos 1)
@@ -82,7 +78,7 @@ pub record LetteredHalves : Type 0 where
   pub down-left : pixel (from (pos 0) (pos 0) (minus 1) (pos 2)) 1 ≡ at (pos 0) (pos 1)
   pub up-right : pixel (from (pos 0) (pos 0) (pos 1) (minus 2)) 1 ≡ at (pos 1) (minus 1)
   pub up-left : pixel (from (pos 0) (pos 0) (minus 1) (minus 2)) 1 ≡ at (pos 0) (minus 1)
-  -- a line with its only halves at odd steps, and the same line from the other end
+  -- a line with a half at every odd step, and the same line from the other end
   pub falling : each 7 (λ i. pixel (from (minus 3) (pos 1) (pos 3) (minus 2)) i .row)
       ≡ pos 1 ∷ pos 1 ∷ pos 0 ∷ pos 0 ∷ minus 1 ∷ minus 1 ∷ minus 2 ∷ []
   pub rising : each 7 (λ i. pixel (from (pos 3) (minus 2) (minus 3) (pos 1)) i .row)

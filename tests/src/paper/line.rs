@@ -2,7 +2,7 @@
 use crate::frame::{ends_out, pixel, Ends, Pixel};
 
 #[cfg(test)]
-mod known;
+mod halves;
 
 #[derive(Clone, Copy, Debug, PartialEq)]
 pub enum Axis {

@@ -9,7 +9,7 @@ use paper::line::Line;
 
 const SIDE: u32 = 8192;
 
-/// Lines over the whole range: diagonal both ways, flat, steep, and with S the half of L, the short coordinate growing along x
+/// Lines over the whole range: diagonal both ways, flat, steep, and with S the half of L, the short coordinate rising along x
 /// and falling along both axes.
 const ENDS: [Ends; 7] = [
     ends(-16384, -16384, 16383, 16383),

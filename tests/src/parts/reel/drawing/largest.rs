@@ -11,7 +11,7 @@ const SIDE: u32 = 8192;
 const MOST_RECORDS: usize = 8190;
 const LONG: u32 = 12;
 
-/// Lines over the whole range: diagonal both ways, flat, steep, and with S the half of L, the short coordinate growing along x
+/// Lines over the whole range: diagonal both ways, flat, steep, and with S the half of L, the short coordinate rising along x
 /// and falling along both axes.
 const RECORDS: [[i16; 4]; 7] = [
     [-16384, -16384, 16383, 16383],

@@ -36,17 +36,17 @@ fn middle_of_two_by_one() {
     }
 }
 
-/// Expects these short coordinates from (0, 0) in the four directions in which they grow and in the four in which they fall.
+/// Expects these short coordinates from (0, 0) in the four directions in which they rise and in the four in which they fall.
 /// From the other end the exact ones are the same in reverse order.
-fn every_direction(long: i32, short: i32, growing: &[i32], falling: &[i32]) {
-    let grow = [(long, short), (-long, short), (short, long), (short, -long)];
+fn every_direction(long: i32, short: i32, rising: &[i32], falling: &[i32]) {
+    let rise = [(long, short), (-long, short), (short, long), (short, -long)];
     let fall = [
         (long, -short),
         (-long, -short),
         (-short, long),
         (-short, -long),
     ];
-    for (ends, expected) in [(grow, growing), (fall, falling)] {
+    for (ends, expected) in [(rise, rising), (fall, falling)] {
         let back: Vec<i32> = expected.iter().rev().copied().collect();
         for (x, y) in ends {
             assert_eq!(shorts(&line(0, 0, x, y)), expected);
@@ -60,21 +60,21 @@ fn halves_in_every_direction() {
     // Between the ends the exact ones are 1/2, 1, 3/2, with a minus where they fall.
     every_direction(4, 2, &[0, 1, 1, 2, 2], &[0, 0, -1, -1, -2]);
     // 1/2, 1, 3/2, 2, 5/2.
-    let growing = [0, 1, 1, 2, 2, 3, 3];
+    let rising = [0, 1, 1, 2, 2, 3, 3];
     let falling = [0, 0, -1, -1, -2, -2, -3];
-    every_direction(6, 3, &growing, &falling);
+    every_direction(6, 3, &rising, &falling);
     // 1/4, 2/4, 3/4.
     every_direction(4, 1, &[0, 0, 1, 1, 1], &[0, 0, 0, -1, -1]);
     // 3/4, 6/4, 9/4.
     every_direction(4, 3, &[0, 1, 2, 2, 3], &[0, -1, -1, -2, -3]);
     // 0.3, 0.6, 0.9, 1.2, 1.5, 1.8, 2.1, 2.4, 2.7.
-    let growing = [0, 0, 1, 1, 1, 2, 2, 2, 2, 3, 3];
+    let rising = [0, 0, 1, 1, 1, 2, 2, 2, 2, 3, 3];
     let falling = [0, 0, -1, -1, -1, -1, -2, -2, -2, -3, -3];
-    every_direction(10, 3, &growing, &falling);
+    every_direction(10, 3, &rising, &falling);
     // A sixth more at each step, so a half at steps 3 and 9.
-    let growing = [0, 0, 0, 1, 1, 1, 1, 1, 1, 2, 2, 2, 2];
+    let rising = [0, 0, 0, 1, 1, 1, 1, 1, 1, 2, 2, 2, 2];
     let falling = [0, 0, 0, 0, -1, -1, -1, -1, -1, -1, -2, -2, -2];
-    every_direction(12, 2, &growing, &falling);
+    every_direction(12, 2, &rising, &falling);
 }
 
 #[test]
@@ -85,11 +85,11 @@ fn halves_below_zero() {
     assert_eq!(shorts(&line(-5, -3, -9, -5)), falling);
     assert_eq!(shorts(&line(-3, -9, -5, -5)), falling);
     assert_eq!(shorts(&line(-3, -5, -5, -9)), falling);
-    let growing = [-5, -4, -4, -3, -3];
-    assert_eq!(shorts(&line(-9, -5, -5, -3)), growing);
-    assert_eq!(shorts(&line(-5, -5, -9, -3)), growing);
-    assert_eq!(shorts(&line(-5, -9, -3, -5)), growing);
-    assert_eq!(shorts(&line(-5, -5, -3, -9)), growing);
+    let rising = [-5, -4, -4, -3, -3];
+    assert_eq!(shorts(&line(-9, -5, -5, -3)), rising);
+    assert_eq!(shorts(&line(-5, -5, -9, -3)), rising);
+    assert_eq!(shorts(&line(-5, -9, -3, -5)), rising);
+    assert_eq!(shorts(&line(-5, -5, -3, -9)), rising);
 }
 
 #[test]
@@ -139,8 +139,8 @@ fn raster_and_text_of_falling_halves() {
     let mut raster = [0; 3];
     let falling = draw(&line(0, 2, 4, 0), frame, &mut raster);
     assert_eq!((falling, raster), (Ok(marks(5, 5)), [8, 48, 192]));
-    let growing = draw(&line(4, 0, 0, 2), frame, &mut raster);
-    assert_eq!((growing, raster), (Ok(marks(5, 0)), [8, 48, 192]));
+    let rising = draw(&line(4, 0, 0, 2), frame, &mut raster);
+    assert_eq!((rising, raster), (Ok(marks(5, 0)), [8, 48, 192]));
     assert_eq!(printed(b"0 2 4 0"), b"axis x runs 3\n2 0 2\n1 2 2\n0 4 1\n");
     assert_eq!(printed(b"4 0 0 2"), b"axis x runs 3\n0 4 1\n1 2 2\n2 0 2\n");
 }
