@@ -54,9 +54,9 @@ module _ (a b : ℤ) where
           diff-eq _ _ _ _ _ _ (diff-plus b _ _ i B) (diff-plus a _ _ j A)
           (omega (arith, far, diff-nlt b a _ _ _ _ B A .0 p, diff-nlt a b _ _ _ _ A B .0 q))
 
-  -- one of the two offsets offsetFor a half up and the other down, but where there is none
-  opposite-offsetFor : (L S : ℕ) → S ≡ apart a b → S ≤ L → Opposite (offsetFor b a L) (offsetFor a b L) L S
-  opposite-offsetFor L S z s = go (ltZ a b) (ltZ b a) refl refl
+  -- one of the two offsets rounds a half up and the other down, but where there is none
+  opposite-offsets : (L S : ℕ) → S ≡ apart a b → S ≤ L → Opposite (offsetFor b a L) (offsetFor a b L) L S
+  opposite-offsets L S z s = go (ltZ a b) (ltZ b a) refl refl
     where
       far : S ≡ (above b + below a - (below b + above a)) + (below b + above a - (above b + below a))
       far = omega (arith, diff-apart a b _ _ _ _ A B)
@@ -123,24 +123,24 @@ module _ (e : Ends) where
 
   pub opposite : Opposite (offset (exchanged e)) (offset e) (long e) (short e)
   opposite =
-      let w = opposite-offsetFor (firstAcross e) (secondAcross e) (long e) (short e) (by-axis e .1) (short-le e) in
+      let w = opposite-offsets (firstAcross e) (secondAcross e) (long e) (short e) (by-axis e .1) (short-le e) in
       let o = offset-is (exchanged e) in
       rw (o, axis-back, long-back, offset-is e) w
 
   pub rounding-back : Rounding (offset (exchanged e)) (long e)
-  rounding-back = rw (long-back) at (rounding (exchanged e))
+  rounding-back = rw long-back at (rounding (exchanged e))
 
   distance-back : (i j : ℕ) → i + j ≡ long e → distance (exchanged e) i + distance e j ≡ short e
   unfolding distance
   distance-back i j q =
-      let there = ap₂ (λ (L S : ℕ). m (offset (exchanged e)) L S i) (long-back) (short-back) in
+      let there = ap₂ (λ (L S : ℕ). m (offset (exchanged e)) L S i) long-back short-back in
       omega (arith, m-back rounding-back (rounding e) (short-le e) opposite i j q)
 
   -- a pixel is one of the line's whichever end is first
   on-back : (column row : ℤ) → onLine (exchanged e) column row ≡ onLine e column row
   unfolding onLine
   on-back column row =
-      ap (λ (n : ℕ). any (suc n) there) (long-back)
+      ap (λ (n : ℕ). any (suc n) there) long-back
       ∙ (bool-iff _ _
       (λ t.
       let f = any-find (suc (long e)) there t in

@@ -7,6 +7,7 @@ use Rattle.line.specs.Line.{long, short, axis, pixel, onLine}
 use Rattle.line.specs.Distance.{distance}
 use Rattle.line.specs.declared.ends.Ends.{Ends}
 
+-- the second end first
 abbrev pub exchanged : Ends → Ends
 exchanged e = record { x0 = e .x1; y0 = e .y1; x1 = e .x0; y1 = e .y0 }
 

@@ -30,7 +30,7 @@ module _ (c : tie.Start) where
       step-within (c .args .line) (c .pre .0) (c .args .window) (lawful (c .args .window) (c .pre .1) .place) (c .args .i) on-line .0 (c .pre .3)
 
 short-at-requires : tie.Need-short-at-requires
-short-at-requires c κs = let r = traced-numbers (c .args .line) (c .pre .0) in (r .0, r .1, r .2, c .pre .2)
+short-at-requires c κs = let r = traced-numbers (c .args .line) (c .pre .0) in (omega (arith, r), r .1, r .2, c .pre .2)
 
 module _ (c : tie.After-short-at) where
   short-is : c .short-at .result .distance ≡ distance (c .before .args .line .ends) (c .before .args .i)
