@@ -54,24 +54,24 @@ module _ (e : Ends) (w : Window) (s : List ℕ) (f n : ℕ) (h : firstMet (bandC
       fresh-band w s (onLine e) f n (w .height - (f + n)) (frm .shape) bytes (omega (arith, rows .last))
 
   -- what the drawer answers and leaves there, with the window and the part's numbers as the code has them
-  module _ (bytes : Bytes s) (v : Window) (size k : ℕ) (v-is : v ≡ bandWindow w f n) (size-is : size ≡ b) (k-is : k ≡ n * size) where
+  module _ (bytes : Bytes s) (v : Window) (from k : ℕ) (v-is : v ≡ bandWindow w f n) (from-is : from ≡ f * b) (k-is : k ≡ n * b) where
     abbrev lent : List ℕ
-    lent = take k (drop (f * size) s)
+    lent = take k (drop from s)
 
     abbrev number : ℕ
     number = firstMet (lineConditions e v (length lent))
 
     number-is : number ≡ 0
-    number-is = rw (v-is, k-is, size-is) part-passed
+    number-is = rw (v-is, k-is, from-is) part-passed
 
     pub band-counted : (a : Answer Marks) → a ≡ answer number (lineMarks e v lent) → a ≡ given (bandMarks e w s f n)
     band-counted a p =
         p
         ∙ ap (λ (m : ℕ). answer m (lineMarks e v lent)) number-is
-        ∙ rw (v-is, k-is, size-is) (ap (λ (m : ℕ). given (marks (bandCount e w f n) m)) (part-fresh bytes))
+        ∙ rw (v-is, k-is, from-is) (ap (λ (m : ℕ). given (marks (bandCount e w f n) m)) (part-fresh bytes))
 
     pub band-drawn : (d : List ℕ) → d ≡ unlessRefused number (lineRaster e v lent) lent
-        → take (f * size) s ++ (d ++ drop k (drop (f * size) s)) ≡ bandRaster e w f n s
+        → take from s ++ (d ++ drop k (drop from s)) ≡ bandRaster e w f n s
     band-drawn d q =
         let drawn : d ≡ lineRaster e v lent = q ∙ ap (λ (m : ℕ). unlessRefused m (lineRaster e v lent) lent) number-is in
-        rw (drawn, v-is, k-is, size-is) (put-back bytes)
+        rw (drawn, v-is, k-is, from-is) (put-back bytes)

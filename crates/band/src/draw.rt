@@ -12,11 +12,14 @@ ghost use Rattle.refusal.specs.Refusal.{given, answer, checked, firstMet};
 ghost use Rattle.raster.specs.Drawn.{drawn};
 ghost use Rattle.band.specs.Drawing.{bandOut, bandConditions, bandMarks, bandRaster, bandAnswer, bandAfter};
 
-// Whether a band has no rows or ends below the window. The sum is made in 64 bits, where it cannot overflow.
+// Whether a band has no rows or ends below the window. Nothing is added, so nothing can overflow.
 pub fn band_out(window: Window, first: u32, rows: u32) -> bool
     ensures { λ r. ⌜ r ≡ bandOut window first rows ⌝ }
 {
-    rows == 0 || (window.height as u64) < first as u64 + rows as u64
+    if rows == 0 {
+        return true;
+    }
+    window.height < rows || window.height - rows < first
 }
 
 // Whether the ends, the window, a raster of `length` bytes and a band are within the limits: passed, or refusal 1, 2, 3, 4 or 6.
@@ -39,9 +42,8 @@ fn draw_rows(ends: Ends, window: Window, first: u32, rows: u32, raster: &mut [u8
     ensures { λ r. ⌜ drawn r ≡ given (bandMarks ends window (now (raster .entry)) first rows) ⌝ }
     ensures { λ _. ⌜ now (raster .exit) ≡ bandRaster ends window first rows (now (raster .entry)) ⌝ }
 {
-    let bytes = window.row_bytes();
-    let from = first as usize * bytes;
-    let end = from + rows as usize * bytes;
+    let from = window.row_start(first);
+    let end = window.row_start(first + rows);
     let band = Window {
         left: window.left,
         top: window.top + first as i32,

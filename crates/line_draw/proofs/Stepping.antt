@@ -8,7 +8,8 @@ use lib.ListN.{length}
 use lib.Dec.{eqb}
 use Rattle.coordinate.specs.Coordinate.{apart}
 use Rattle.interpolation.specs.Interpolation.{rest}
-use Rattle.interpolation.proofs.Laws.{flat-m, flat-rest, diagonal-m, diagonal-rest, rest-lt}
+use Rattle.interpolation.proofs.Facts.{decision-number}
+use Rattle.interpolation.proofs.Laws.{flat-m, flat-rest, diagonal-m, diagonal-rest}
 use Rattle.raster.specs.Raster.{plus}
 use Rattle.raster.specs.Bits.{withBits, point}
 use Rattle.raster.specs.declared.window.Window.{Window}
@@ -20,17 +21,13 @@ use Rattle.line.specs.Distance.{offset, distance}
 use Rattle.line.specs.Trace.{Traced}
 use Rattle.line.specs.declared.ends.Ends.{Ends}
 use Rattle.line.specs.declared.trace.Line.{Line}
-use Rattle.line.proofs.Pixels.{short-le, long-max}
-use Rattle.line_draw.specs.Walk.{seen, Shown, stepBit, stepRest, Stands, Moves}
+use Rattle.line.proofs.Pixels.{short-le, long-max, rounding}
+use Rattle.line_draw.specs.Walk.{seen, Shown, stepBit, stepRest, Bounded, Stands, Moves}
 use Rattle.line_draw.specs.declared.walk.Spot.{Spot}
 use Rattle.line_draw.specs.declared.walk.Strides.{Strides}
 
 -- what a remainder says of the next step
 module _ (e : Ends) (i : ℕ) (l : 1 ≤ long e) where
-  pub rest-below : stepRest e i < 2 * long e
-  unfolding stepRest
-  rest-below = rest-lt (offset e) (long e) (short e) i l
-
   pub flat-step : stepRest e i + 2 * short e < 2 * long e → (distance e (i + 1) ≡ distance e i) × (stepRest e (i + 1) ≡ stepRest e i + 2 * short e)
   unfolding stepRest distance
   flat-step h = (flat-m (offset e) (long e) (short e) i l h, flat-rest (offset e) (long e) (short e) i l h)
@@ -41,19 +38,23 @@ module _ (e : Ends) (i : ℕ) (l : 1 ≤ long e) where
   diagonal-step h =
       (diagonal-m (offset e) (long e) (short e) i l (short-le e) h, diagonal-rest (offset e) (long e) (short e) i l (short-le e) h)
 
--- the line's numbers are small where a step follows, so no sum of the code wraps
+-- the number that a walk enters with is bounded, whichever way the line's halves go
+pub rest-enters : (e : Ends) (i n : ℕ) → n ≡ stepRest e i → Bounded e n
+unfolding stepRest
+rest-enters e i n q = omega (arith, decision-number (short-le e) (rounding e) .most i)
+
+-- the line's numbers and the walk's are small, so no sum of the code wraps
 pub record Small (line : Line) (at : Spot) : Type 0 where
   pub long-most : line .long ≤ 32767
   pub short-most : line .short ≤ line .long
-  pub rest-most : at .rest < 2 * line .long
+  pub rest-most : at .rest ≤ 2 * line .long
 
-pub step-small : {line : Line} {w : Window} {i b : ℕ} {at : Spot} → Traced line → Shown (line .ends) w i b → i + 2 ≤ b → Stands (line .ends) w i at
-    → Small line at
-step-small {line} {i = i} traced shown more stands =
+pub step-small : {line : Line} {w : Window} {i : ℕ} {at : Spot} → Traced line → Stands (line .ends) w i at → Small line at
+step-small {line} traced stands =
     record {
       long-most = omega (arith, long-max (line .ends) (traced .ends-in));
       short-most = omega (arith, short-le (line .ends));
-      rest-most = omega (arith, rest-below (line .ends) i (omega arith));
+      rest-most = omega (arith, stands .rest-bounded);
     }
 
 -- one step, of two that lie in the window
@@ -82,14 +83,18 @@ module _ {e : Ends} {w : Window} {by : Strides} {i : ℕ} {at : Spot} (moves : M
       → r .rest ≡ at .rest + 2 * short e → Stands e w (i + 1) r
   flat-on r h p q =
       let s = flat-step e i (omega (arith, inner)) (omega (arith, stands .rest-is)) in
-      record { bit-is = omega (arith, flat-bit h); rest-is = omega (arith, s .1, stands .rest-is) }
+      record { bit-is = omega (arith, flat-bit h); rest-is = omega (arith, s .1, stands .rest-is); rest-bounded = omega arith }
 
   pub diagonal-on : (r : Spot) → 2 * long e ≤ at .rest + 2 * short e
       → r .bit + (by .«long_back» + by .«short_back») ≡ at .bit + (by .«long_on» + by .«short_on»)
       → r .rest + 2 * long e ≡ at .rest + 2 * short e → Stands e w (i + 1) r
   diagonal-on r h p q =
       let s = diagonal-step e i (omega (arith, inner)) (omega (arith, stands .rest-is)) in
-      record { bit-is = omega (arith, diagonal-bit h); rest-is = omega (arith, s .1, stands .rest-is) }
+      record {
+        bit-is = omega (arith, diagonal-bit h);
+        rest-is = omega (arith, s .1, stands .rest-is);
+        rest-bounded = omega (arith, stands .rest-bounded, short-le e);
+      }
 
 pub shown-part : {e : Ends} {w : Window} {a b : ℕ} → Shown e w a b → (c d : ℕ) → a ≤ c → c < d → d ≤ b → Shown e w c d
 shown-part s c d p q u = record { some = q; most = omega (arith, s .most); all = λ i x y. s .all i (omega arith) (omega arith) }

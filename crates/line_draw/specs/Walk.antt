@@ -1,5 +1,5 @@
 -- What the functions below the drawers promise: the visible steps, and where a walk stands. Assumes nothing.
-use Prim.Native.Nat.{ℕ, _+_, _≤_, _<_}
+use Prim.Native.Nat.{ℕ, _+_, _*_, _≤_, _<_}
 use mathlib.Core.Path.{_≡_}
 use mathlib.Core.Logic.{_↔_}
 use mathlib.Core.Bool.{Bool, true}
@@ -40,10 +40,16 @@ stepBit e w i = bitOf w (apart (w .left) (pixel e i .column)) (apart (w .top) (p
 unfoldable pub stepRest : Ends → ℕ → ℕ
 stepRest e i = rest (offset e) (long e) (short e) i
 
--- a walk stands at step i
+-- Document 02, 5/13: the decision number that a walk holds is at most 2 × L from 0. It is unsigned, so it is not below 0.
+abbrev pub Bounded : Ends → ℕ → Type 0
+Bounded e n = n ≤ 2 * long e
+
+-- A walk stands at step i. Both drawers hold a spot only where this is so: `enter` promises it of the first, `next` of each after
+-- it, and it is the invariant of their loops.
 pub record Stands (e : Ends) (w : Window) (i : ℕ) (at : Spot) : Type 0 where
   pub bit-is : at .bit ≡ stepBit e w i
   pub rest-is : at .rest ≡ stepRest e i
+  pub rest-bounded : Bounded e (at .rest)
 
 -- what a flat and a diagonal step within the window add to the bit and take from it
 pub record Moves (e : Ends) (w : Window) (s : Strides) : Type 0 where

@@ -75,7 +75,7 @@ pub fn stride_of(line: Line, window: Window) -> Strides
     requires { ⌜ Traced line × (firstMet (windowConditions window) ≡ 0) ⌝ }
     ensures { λ r. ⌜ Moves (line .ends) window r ⌝ }
 {
-    let row = 8 * window.row_bytes();
+    let row = window.row_bits() as usize;
     let right = choose(line.right, 1, 0);
     let left = choose(line.right, 0, 1);
     let down = choose(line.down, row, 0);

@@ -106,13 +106,13 @@ window-in w n e = append-none (windowConditions w) ((4, lengthOff w n) ∷ []) (
 pub row-within : (w : Window) (n r : ℕ) → Shaped w n → r < w .height → r * rowBytes (w .width) + rowBytes (w .width) ≤ n
 row-within w n r f l = omega (arith, f .length-is, mul-le-mul-right (rowBytes (w .width)) l)
 
--- a raster is small
-pub bytes-max : (w : Window) → Sized w → w .height * rowBytes (w .width) ≤ 8388608
-bytes-max w z =
-    mul-le-mul {n₁ = w .height} {m₁ = rowBytes (w .width)} {n₂ = 8192} {m₂ = 1024} (z .height-max) (omega (arith, z .width-max))
+-- a raster is small, and so is every part of it from its top on
+pub start-max : (w : Window) (r : ℕ) → Sized w → r ≤ w .height → r * rowBytes (w .width) ≤ 8388608
+start-max w r z l =
+    mul-le-mul {n₁ = r} {m₁ = rowBytes (w .width)} {n₂ = 8192} {m₂ = 1024} (omega (arith, z .height-max)) (omega (arith, z .width-max))
 
 pub raster-max : (w : Window) (n : ℕ) → Frame w n → n ≤ 8388608
-raster-max w n f = omega (arith, f .shape .length-is, bytes-max w (f .size))
+raster-max w n f = omega (arith, f .shape .length-is, start-max w (w .height) (f .size) (omega arith))
 
 -- the code's test of a side's last coordinate
 pub place-test : (z : ℤ) (n : ℕ) → outOfRange z ≡ false → ltb 32768 (biased z + n) ≡ sidePlaceOut z n

@@ -4,6 +4,7 @@ use refusal::Check;
 use refusal::Refusal;
 ghost use mathlib.Core.Path.{_≡_};
 ghost use mathlib.Core.Bool.{false, _||_};
+ghost use Prim.Native.Nat.{_*_, _≤_};
 ghost use Rattle.refusal.specs.Refusal.{answer, checked, firstMet};
 ghost use Rattle.raster.specs.Raster.{rowBytes};
 ghost use Rattle.raster.specs.Window.{sideOut, sizeOut, sidePlaceOut, placeOut, lengthOff, windowConditions, frameConditions, windowOf, made};
@@ -74,11 +75,28 @@ impl Window {
         (self.width as usize + 7) / 8
     }
 
+    // The bits of a row, its padding among them.
+    pub fn row_bits(self) -> u32
+        requires { ⌜ sizeOut self ≡ false ⌝ }
+        ensures { λ r. ⌜ r ≡ 8 * rowBytes (self .width) ⌝ }
+    {
+        8 * ((self.width + 7) / 8)
+    }
+
+    // The place of the first byte of row `row`, which is the raster's length for the row after the last. A raster is short enough
+    // for a product of 32 bits.
+    pub fn row_start(self, row: u32) -> usize
+        requires { ⌜ (sizeOut self ≡ false) × (row ≤ self .height) ⌝ }
+        ensures { λ r. ⌜ r ≡ row * rowBytes (self .width) ⌝ }
+    {
+        (row * ((self.width + 7) / 8)) as usize
+    }
+
     fn length_off(self, length: usize) -> bool
         requires { ⌜ sizeOut self ≡ false ⌝ }
         ensures { λ r. ⌜ r ≡ lengthOff self length ⌝ }
     {
-        length != self.height as usize * self.row_bytes()
+        length != self.row_start(self.height)
     }
 
     // Whether the window is within the limits: passed, or refusal 2 or 3.

@@ -72,16 +72,16 @@ module _ (list : List ℤ) (w : Window) (s : List ℕ) (f n : ℕ) (h : firstMet
       ap (marks (recordsCount list w f n)) (fresh-band w s (onRecords list) f n (w .height - (f + n)) (frm .shape) bytes (omega (arith, rows .last)))
 
   -- the same with the window and the part's numbers as the code has them
-  module _ (v : Window) (size k : ℕ) (v-is : v ≡ bandWindow w f n) (size-is : size ≡ b) (k-is : k ≡ n * size) where
+  module _ (v : Window) (from k : ℕ) (v-is : v ≡ bandWindow w f n) (from-is : from ≡ f * b) (k-is : k ≡ n * b) where
     abbrev lent : List ℕ
-    lent = take k (drop (f * size) s)
+    lent = take k (drop from s)
 
     pub lent-passed : firstMet (frameConditions v (length lent)) ≡ 0
-    lent-passed = rw (v-is, k-is, size-is) part-passed
+    lent-passed = rw (v-is, k-is, from-is) part-passed
 
     pub rows-counted : Bytes s → (m : Marks) → m ≡ windowMarks list v lent → m ≡ recordsMarks list w s f n
-    rows-counted bytes m p = p ∙ rw (v-is, k-is, size-is) (part-marks bytes)
+    rows-counted bytes m p = p ∙ rw (v-is, k-is, from-is) (part-marks bytes)
 
     pub rows-drawn : Bytes s → (d : List ℕ) → d ≡ windowRaster list v lent
-        → take (f * size) s ++ (d ++ drop k (drop (f * size) s)) ≡ recordsRaster list w f n s
-    rows-drawn bytes d q = rw (q, v-is, k-is, size-is) (put-back bytes)
+        → take from s ++ (d ++ drop k (drop from s)) ≡ recordsRaster list w f n s
+    rows-drawn bytes d q = rw (q, v-is, k-is, from-is) (put-back bytes)

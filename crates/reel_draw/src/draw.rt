@@ -45,9 +45,8 @@ fn draw_rows(bytes: &[u8], window: Window, first: u32, rows: u32, raster: &mut [
     ensures { λ r. ⌜ r ≡ recordsMarks (coordinates (now (bytes .entry))) window (now (raster .entry)) first rows ⌝ }
     ensures { λ _. ⌜ now (raster .exit) ≡ recordsRaster (coordinates (now (bytes .entry))) window first rows (now (raster .entry)) ⌝ }
 {
-    let size = window.row_bytes();
-    let from = first as usize * size;
-    let end = from + rows as usize * size;
+    let from = window.row_start(first);
+    let end = window.row_start(first + rows);
     let band = Window {
         left: window.left,
         top: window.top + first as i32,

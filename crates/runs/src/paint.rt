@@ -141,7 +141,7 @@ fn fill_column(window: Window, column: u32, row: u32, n: u32, raster: &mut [u8])
 {
     let bit = MASK[column as usize % 8];
     let stride = window.row_bytes();
-    let mut at = row as usize * stride + column as usize / 8;
+    let mut at = window.row_start(row) + column as usize / 8;
     let mut fresh: u32 = 0;
     let mut i: u32 = 0;
     while i < n {

@@ -136,7 +136,7 @@ loop-again c =
     let p = c .before .before .before .before .before in
     let e = p .pair-of .ensures in (
       omega (arith, more p),
-      record { bit-is = e .bit-is; rest-is = e .rest-is },
+      record { bit-is = e .bit-is; rest-is = e .rest-is; rest-bounded = e .rest-bounded },
       second (turn p .before) _ (p .before .before .before .put-bit .ensures) (e .middle-is) (omega (arith, more p)) _ (c .before .before .put-bit2 .ensures),
     )
 

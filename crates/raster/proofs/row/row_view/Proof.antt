@@ -1,13 +1,15 @@
 -- Each return is a case of the definition.
 use borrow.Author.Needs.{needs}
 use Prim.Native.Nat.{ℕ, _+_, _-_, _*_, _≤_}
-use mathlib.Core.Path.{_≡_, ap, _∙_}
+use mathlib.Core.Path.{_≡_, ap₂, _∙_}
+use mathlib.Core.Bool.{false}
 use native.Mathlib.Omega.{arith}
 use lib.ListN.{length, take, drop}
 use Rattle.refusal.specs.Refusal.{firstMet}
 use Rattle.refusal.proofs.Handing.{refused-by, passed-by}
-use Rattle.raster.specs.Window.{frameConditions}
-use Rattle.raster.proofs.Frames.{frame, size-in, row-within, raster-max}
+use Rattle.raster.specs.Raster.{rowBytes}
+use Rattle.raster.specs.Window.{sizeOut, frameConditions}
+use Rattle.raster.proofs.Frames.{frame, size-in, row-within}
 use Rattle.raster.proofs.Rows.{view-refused, view-out, view-given}
 use Rattle.raster.proofs.row.row_view.Statement.{statement}
 use Rattle.raster.proofs.row.row_view.Tie as tie
@@ -58,25 +60,34 @@ part-result-end-2 c = search needs
 returns-2 : tie.Need-returns-2
 returns-2 c =
     let a = c .before .before .before .before .before .before .before .args in
-    view-out (a .window) (a .raster .now) (a .row) (within (c .before .before .before)) (c .before .if1 .taken)
+    view-out (a .window) (a .raster .now) (a .row) (within (c .before .before .before)) (omega (arith, c .before .if1 .taken))
 
-row-bytes-requires : tie.Need-row-bytes-requires
-row-bytes-requires c κs = size-in (c .before .before .before .before .before .before .args .window) _ (within (c .before .before))
+-- the row is one of the window's
+module _ (c : tie.Else1) where
+  abbrev s : tie.Start
+  s = c .before .before .before .before .before .before
 
--- the row lies in the raster, which is small
-module _ (c : tie.After-row-bytes) where
-  row-in : (c .before .before .before .before .before .before .before .args .row * c .row-bytes .result + c .row-bytes .result
-      ≤ length (c .before .before .before .before .before .before .before .args .raster .now)) × (length (c .before .before .before .before .before .before .before .args .raster .now) ≤ 8388608)
-  row-in =
-      let a = c .before .before .before .before .before .before .before .args in
-      let f = frame (a .window) _ (within (c .before .before .before)) in
-      rw (c .row-bytes .ensures) (row-within (a .window) _ (a .row) (f .shape) (c .before .if1 .left), raster-max (a .window) _ f)
+  sized : sizeOut (s .args .window) ≡ false
+  sized = size-in (s .args .window) _ (within (c .before .before))
 
-mul-from : tie.Need-mul-from
-mul-from c = record { fits = omega (arith, row-in c) }
+  -- its bytes are those up to where the next row begins, and lie in the raster
+  module _ (from end : ℕ) (from-is : from ≡ s .args .row * rowBytes (s .args .window .width)) (end-is : end ≡ (s .args .row + 1) * rowBytes (s .args .window .width)) where
+    row-size : end - from ≡ rowBytes (s .args .window .width)
+    row-size = omega arith
 
-add-end : tie.Need-add-end
-add-end c = record { fits = omega (arith, row-in c) }
+    row-in : end ≤ length (s .args .raster .now)
+    row-in =
+        let f = frame (s .args .window) _ (within (c .before .before)) in
+        omega (arith, row-within (s .args .window) _ (s .args .row) (f .shape) (omega (arith, c .if1 .left)))
+
+row-start-requires : tie.Need-row-start-requires
+row-start-requires c κs = (sized c, omega (arith, c .if1 .left))
+
+add-row-start : tie.Need-add-row-start
+add-row-start c = search needs
+
+row-start-requires-2 : tie.Need-row-start-requires-2
+row-start-requires-2 c κs = (sized (c .before), omega (arith, c .before .if1 .left))
 
 sub-result-3 : tie.Need-sub-result-3
 sub-result-3 c = search needs
@@ -85,16 +96,15 @@ part-result-start-3 : tie.Need-part-result-start-3
 part-result-start-3 c = search needs
 
 part-result-end-3 : tie.Need-part-result-end-3
-part-result-end-3 c = row-in c .0
+part-result-end-3 c = row-in (c .before .before) _ _ (c .before .row-start .ensures) (c .row-start2 .ensures)
 
 returns-3 : tie.Need-returns-3
 returns-3 c =
-    let s = c .before .before .before .before .before .before .before .before in
-    let b = c .before .row-bytes .result in
-    let one : s .args .row * b + b - s .args .row * b ≡ b = omega arith in
-    ap (λ (n : ℕ). take n (drop (s .args .row * b) (s .args .raster .now))) one
-    ∙ ap (λ (n : ℕ). take n (drop (s .args .row * n) (s .args .raster .now))) (c .before .row-bytes .ensures)
-    ∙ view-given (s .args .window) (s .args .raster .now) (s .args .row) (within (c .before .before .before .before)) (c .before .before .if1 .left)
+    let p = c .before in
+    let e = p .before .before in
+    let a = s e .args in
+    ap₂ (λ (n from : ℕ). take n (drop from (a .raster .now))) (row-size e _ _ (p .before .row-start .ensures) (p .row-start2 .ensures)) (p .before .row-start .ensures)
+    ∙ view-given (a .window) (a .raster .now) (a .row) (within (e .before .before)) (e .if1 .left)
 
 pub row-view-spec : {M : Type 1} → statement M
 row-view-spec =
@@ -111,9 +121,9 @@ row-view-spec =
     part-result-start-2
     part-result-end-2
     returns-2
-    row-bytes-requires
-    mul-from
-    add-end
+    row-start-requires
+    add-row-start
+    row-start-requires-2
     sub-result-3
     part-result-start-3
     part-result-end-3
