@@ -84,7 +84,10 @@ row-start-requires : tie.Need-row-start-requires
 row-start-requires c κs = (sized c, omega (arith, c .if1 .left))
 
 add-row-start : tie.Need-add-row-start
-add-row-start c = search needs
+add-row-start c =
+    let e = c .before in
+    let f = frame (s e .args .window) _ (within (e .before .before)) in
+    record { fits = omega (arith, f .size .height-max, e .if1 .left) }
 
 row-start-requires-2 : tie.Need-row-start-requires-2
 row-start-requires-2 c κs = (sized (c .before), omega (arith, c .before .if1 .left))
