@@ -12,7 +12,8 @@ ghost use Rattle.refusal.specs.Refusal.{given, answer, checked, firstMet};
 ghost use Rattle.raster.specs.Drawn.{drawn};
 ghost use Rattle.band.specs.Drawing.{bandOut, bandConditions, bandMarks, bandRaster, bandAnswer, bandAfter};
 
-// Whether a band has no rows or ends below the window. Nothing is added, so nothing can overflow.
+// Whether a band has no rows or ends below the window. Its rows are taken from the height, since its first row and their number may
+// be too large to add.
 pub fn band_out(window: Window, first: u32, rows: u32) -> bool
     ensures { λ r. ⌜ r ≡ bandOut window first rows ⌝ }
 {
