@@ -1,12 +1,11 @@
 -- Drawing records in the part of the raster where a band's rows lie, with the window of these rows, is drawing them in the band.
 use Prim.Native.Nat.{ℕ, _+_, _-_, _*_}
-use mathlib.Core.Path.{_≡_, ap, _∙_}
+use mathlib.Core.Path.{_≡_, refl, ap, _∙_}
 use mathlib.Core.Bool.{false}
 use mathlib.Core.List.{List, [], _∷_, _++_}
 use native.Mathlib.Omega.{arith}
 use lib.IntN.{ℤ}
-use lib.ListN.{length, take, drop, length-drop}
-use lib.Seq.{length-take-le}
+use lib.ListN.{length, take, drop}
 use Rattle.refusal.specs.Refusal.{firstMet}
 use Rattle.refusal.proofs.Conditions.{none-met, append-none}
 use Rattle.raster.specs.Raster.{rowBytes}
@@ -16,10 +15,10 @@ use Rattle.raster.specs.Drawn.{marks}
 use Rattle.raster.specs.declared.drawn.Marks.{Marks}
 use Rattle.raster.specs.declared.window.Window.{Window}
 use Rattle.raster.proofs.Band.{plus-band, fresh-band}
-use Rattle.raster.proofs.Frames.{Frame, frame, frame-met, frame-numbered, size-in}
+use Rattle.raster.proofs.Frames.{Frame, frame, frame-met, frame-numbered, size-in, rows-length}
 use Rattle.raster.proofs.Over.{Bytes}
 use Rattle.band.specs.Drawing.{bandOut}
-use Rattle.band.proofs.Limits.{Within, band-within, band-frame, band-bytes}
+use Rattle.band.proofs.Limits.{Within, band-within, band-frame}
 use Rattle.reel_draw.specs.Records.{onRecords, windowCount, windowFresh, windowMarks, windowRaster, recordsCount, recordsFresh, recordsMarks, recordsRaster}
 use Rattle.reel_draw.specs.Drawing.{rowsConditions}
 
@@ -50,14 +49,9 @@ module _ (list : List ℤ) (w : Window) (s : List ℕ) (f n : ℕ) (h : firstMet
   rows : Within w f n
   rows = rows-left w (length s) f n h
 
-  part-length : length part ≡ n * b
-  part-length =
-      let fits = band-bytes w (length s) f n frm rows in
-      length-take-le (n * b) (drop (f * b) s) (omega (arith, fits, length-drop (f * b) s))
-
   part-passed : firstMet (frameConditions (bandWindow w f n) (length part)) ≡ 0
   part-passed =
-      ap (λ (k : ℕ). firstMet (frameConditions (bandWindow w f n) k)) part-length
+      ap (λ (k : ℕ). firstMet (frameConditions (bandWindow w f n) k)) (rows-length w (length s) f n (frm .shape) (rows .last) s refl)
       ∙ frame-met (bandWindow w f n) (n * b) (band-frame w (length s) f n frm rows)
 
   -- the drawing of the part, put back between what lies before and after it

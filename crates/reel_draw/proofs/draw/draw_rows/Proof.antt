@@ -5,9 +5,9 @@ use native.Mathlib.Omega.{arith}
 use lib.ListN.{length}
 use borrow.Author.Needs.{needs}
 use Rattle.raster.specs.Raster.{rowBytes}
-use Rattle.raster.proofs.Frames.{Frame}
+use Rattle.raster.proofs.Frames.{Frame, starts-apart, end-within}
 use Rattle.raster.proofs.Over.{Bytes}
-use Rattle.band.proofs.Limits.{Within, part-length, part-in, first-small, top-sum, window-made}
+use Rattle.band.proofs.Limits.{Within, first-small, top-sum, window-made}
 use Rattle.reel.specs.Reel.{coordinates}
 use Rattle.reel_draw.proofs.RowLaws.{frame-left, rows-left, size-left, lent-passed, rows-counted, rows-drawn}
 use Rattle.reel_draw.proofs.draw.draw_rows.Statement.{statement}
@@ -40,10 +40,10 @@ module _ (c : tie.After-row-start2) where
   s = c .before .before .before .before
 
   size : c .row-start2 .result - c .before .row-start .result ≡ s .args .rows * rowBytes (s .args .window .width)
-  size = part-length (s .args .window) _ (s .args .first) (s .args .rows) (frm s) (rows s) _ _ (c .before .row-start .ensures) (c .row-start2 .ensures)
+  size = starts-apart (s .args .window) _ (s .args .first) (s .args .rows) (frm s .shape) (rows s .last) _ _ (c .before .row-start .ensures) (c .row-start2 .ensures)
 
   in-raster : c .row-start2 .result ≤ length (s .args .raster .now)
-  in-raster = part-in (s .args .window) _ (s .args .first) (s .args .rows) (frm s) (rows s) _ _ (c .before .row-start .ensures) (c .row-start2 .ensures)
+  in-raster = end-within (s .args .window) _ (s .args .first) (s .args .rows) (frm s .shape) (rows s .last) _ _ (c .before .row-start .ensures) (c .row-start2 .ensures)
 
 cast-t10 : tie.Need-cast-t10
 cast-t10 c =
