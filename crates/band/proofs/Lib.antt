@@ -4,3 +4,5 @@ pub mod CallLaws
 pub mod EqualRaster
 pub mod BothLaws
 pub mod NewPixels
+pub mod Exchanged
+pub mod Nudge

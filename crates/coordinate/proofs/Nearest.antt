@@ -1,5 +1,6 @@
--- The floor of z / c is the only q with q × c ≤ z < q × c + c; with z = 2 × p + d and c = 2 × d that is `WithinHalf`.
-use Prim.Native.Nat.{ℕ, _+_, _*_, _/_, _≤_, _<_}
+-- The floor of z / c is the only q with q × c ≤ z < q × c + c; with z = 2 × p + d and c = 2 × d that is `WithinHalf`. Where z grows
+-- by at most k × c the floor grows by at most k.
+use Prim.Native.Nat.{ℕ, _+_, _-_, _*_, _/_, _≤_, _<_}
 use mathlib.Core.Path.{_≡_, refl, sym}
 use mathlib.Core.Bool.{true, false}
 use mathlib.Core.Logic.{_↔_}
@@ -9,7 +10,7 @@ use lib.IntN.{ℤ, pos, negsuc, _+ℤ_, _-ℤ_, _*ℤ_}
 use lib.Signed.{leZ, ltZ}
 use Rattle.counting.proofs.Boolean.{to-T, of-T}
 use Rattle.coordinate.specs.Coordinate.{apart, outOfRange}
-use Rattle.coordinate.specs.Nearest.{floorDiv, nearest, WithinHalf, NearestFacts}
+use Rattle.coordinate.specs.Nearest.{floorDiv, ceilDiv, nearest, CeilFacts, WithinHalf, NearestFacts}
 use Rattle.coordinate.proofs.Bias.{in-range, range-in}
 use Rattle.coordinate.proofs.Difference.{Diff, above, below, diff-parts, diff-eq, diff-same, diff-add, diff-times, diff-plus, diff-less, diff-le, diff-lt, diff-apart}
 
@@ -39,19 +40,16 @@ floor-is z a b c C d =
     let f = floor-parts z c C in
     record { least = omega (arith, f .least); next = omega (arith, f .next) }
 
--- of two such numbers neither is above the other
-floor-most : (a b c u v u' v' : ℕ) → Floor a b c u v → Floor a b c u' v' → u + v' ≤ u' + v
-floor-most a b c u v u' v' f g =
-    let e = mul-add c u v' in
-    let h = mul-add c (u' + v) 1 in
-    let k = mul-add c u' v in
-    omega (arith, lt-of-mul-lt-mul-left c {m = u + v'} {n = u' + v + 1} (omega (arith, f .least, g .next)))
+-- where a − b is at most c × k above a' − b', its floor is at most k above the other's
+floor-most : (a b a' b' c k u v u' v' : ℕ) → a + b' ≤ a' + b + c * k → Floor a b c u v → Floor a' b' c u' v' → u + v' ≤ u' + v + k
+floor-most a b a' b' c k u v u' v' l f g =
+    omega (arith, lt-of-mul-lt-mul-left c {m = u + v'} {n = u' + v + k + 1} (omega (arith, f .least, g .next)))
 
 floor-only : (z n : ℤ) (a b c u v : ℕ) → 0 < c → Diff z a b → Diff n u v → Floor a b c u v → n ≡ floorDiv z c
 floor-only z n a b c u v C d e f =
     let g = floor-is z a b c C d in
     diff-eq n _ u v _ _ e (diff-parts (floorDiv z c))
-    (omega (arith, floor-most a b c u v _ _ f g, floor-most a b c _ _ u v g f))
+    (omega (arith, floor-most a b a b c 0 u v _ _ (omega arith) f g, floor-most a b a b c 0 _ _ u v (omega arith) g f))
 
 -- ---- the nearest whole number
 
@@ -86,12 +84,15 @@ module _ (p : ℤ) (d : ℕ) (a b : ℕ) (P : Diff p a b) where
           next = omega (arith, high-is .0 (of-T _ (w .high .lt)));
         }
 
-pub nearest-within : (p : ℤ) (d : ℕ) → 0 < d → WithinHalf p d (nearest p d)
+nearest-floor : (p : ℤ) (d a b : ℕ) → 0 < d → Diff p a b
+    → Floor (2 * a + d) (2 * b) (2 * d) (above (nearest p d)) (below (nearest p d))
 unfolding nearest
+nearest-floor p d a b D P = floor-is (pos 2 *ℤ p +ℤ pos d) _ _ (2 * d) (omega arith) (raised p d a b P)
+
+pub nearest-within : (p : ℤ) (d : ℕ) → 0 < d → WithinHalf p d (nearest p d)
 nearest-within p d D =
     let P = diff-parts p in
-    let z = pos 2 *ℤ p +ℤ pos d in
-    floor-within p d _ _ P _ _ _ (diff-parts (floorDiv z (2 * d))) (floor-is z _ _ (2 * d) (omega arith) (raised p d _ _ P))
+    floor-within p d _ _ P (nearest p d) _ _ (diff-parts (nearest p d)) (nearest-floor p d _ _ D P)
 
 pub nearest-only : (p : ℤ) (d : ℕ) → 0 < d → (n : ℤ) → WithinHalf p d n → n ≡ nearest p d
 unfolding nearest
@@ -109,10 +110,32 @@ within-half p d n w =
     let e = diff-apart (pos d *ℤ n) p _ _ _ _ (diff-times d n _ _ N) P in
     omega (arith, f .least, f .next, mul-assoc 2 d (above n), mul-assoc 2 d (below n))
 
+pub ceil-facts : (n c : ℕ) → 0 < c → CeilFacts n c
+unfolding ceilDiv
+ceil-facts n c C =
+    let q = quotient (n + (c - 1)) c C in
+    record {
+      covers = omega (arith, q .1);
+      least = λ k l. omega (arith, lt-of-mul-lt-mul-left c {m = (n + (c - 1)) / c} {n = k + 1} (omega (arith, q .0)));
+    }
+
+-- of two fractions at most k apart
+nearest-moves : (p : ℤ) (d : ℕ) → 0 < d → (q : ℤ) (k : ℕ) → apart p q ≤ d * k → apart (nearest p d) (nearest q d) ≤ k
+nearest-moves p d D q k l =
+    let P = diff-parts p in
+    let Q = diff-parts q in
+    let f = nearest-floor p d _ _ D P in
+    let g = nearest-floor q d _ _ D Q in
+    let far = diff-apart p q _ _ _ _ P Q in
+    let e = mul-assoc 2 d k in
+    let up = floor-most _ _ _ _ (2 * d) k _ _ _ _ (omega arith) f g in
+    let down = floor-most _ _ _ _ (2 * d) k _ _ _ _ (omega arith) g f in
+    omega (arith, diff-apart (nearest p d) (nearest q d) _ _ _ _ (diff-parts (nearest p d)) (diff-parts (nearest q d)))
+
 pub nearest-facts : (p : ℤ) (d : ℕ) → 0 < d → NearestFacts p d
 nearest-facts p d D =
     let w = nearest-within p d D in
-    record { within = w; only = nearest-only p d D; half = within-half p d (nearest p d) w }
+    record { within = w; only = nearest-only p d D; half = within-half p d (nearest p d) w; moves = nearest-moves p d D }
 
 -- the same in natural numbers, p being a − b and n being u − v
 pub nearest-is : (p n : ℤ) (d a b u v : ℕ) → 0 < d → Diff p a b → Diff n u v → 2 * (d * u) + 2 * b ≤ 2 * a + 2 * (d * v) + d
@@ -124,28 +147,27 @@ nearest-is p n d a b u v D P N least next =
 
 -- the nearest whole number is in range where −16384.5 ≤ p / d < 16383.5, and nowhere else
 module _ (p : ℤ) (d a b : ℕ) (D : 0 < d) (P : Diff p a b) where
-  bounds : Floor (2 * a + d) (2 * b) (2 * d) (above (nearest p d)) (below (nearest p d))
-  bounds = within-floor p d a b P (nearest p d) _ _ (diff-parts (nearest p d)) (nearest-within p d D)
-
   pub nearest-in : outOfRange (nearest p d) ≡ false → (2 * b ≤ 2 * a + 32769 * d) × (2 * a < 2 * b + 32767 * d)
   nearest-in e =
       let u = above (nearest p d) in
       let v = below (nearest p d) in
+      let f = nearest-floor p d a b D P in
       let r = in-range (nearest p d) u v (diff-parts (nearest p d)) e in
       let l = mul-le-mul-left (2 * d) (r .0) in
       let h = mul-le-mul-left (2 * d) (r .1) in
       let x = mul-add (2 * d) u 16384 in
       let y = mul-add (2 * d) v 16383 in
-      (omega (arith, bounds .least, bounds .next), omega (arith, bounds .least, bounds .next))
+      (omega (arith, f .least, f .next), omega (arith, f .least, f .next))
 
   pub in-nearest : 2 * b ≤ 2 * a + 32769 * d → 2 * a < 2 * b + 32767 * d → outOfRange (nearest p d) ≡ false
   in-nearest l h =
       let u = above (nearest p d) in
       let v = below (nearest p d) in
+      let f = nearest-floor p d a b D P in
       let x = mul-add (2 * d) u 16385 in
       let y = mul-add (2 * d) v 16384 in
-      let k = lt-of-mul-lt-mul-left (2 * d) {m = v} {n = u + 16385} (omega (arith, bounds .next)) in
-      let g = lt-of-mul-lt-mul-left (2 * d) {m = u} {n = v + 16384} (omega (arith, bounds .least)) in
+      let k = lt-of-mul-lt-mul-left (2 * d) {m = v} {n = u + 16385} (omega (arith, f .next)) in
+      let g = lt-of-mul-lt-mul-left (2 * d) {m = u} {n = v + 16384} (omega (arith, f .least)) in
       range-in (nearest p d) u v (diff-parts (nearest p d)) (omega arith) (omega arith)
 
 -- of k + p / d, for a whole number k
@@ -154,7 +176,7 @@ nearest-shift k p d D =
     let K = diff-parts k in
     let P = diff-parts p in
     let N = diff-parts (nearest p d) in
-    let f = bounds p d _ _ D P in
+    let f = nearest-floor p d _ _ D P in
     let x = mul-assoc 2 d (above (nearest p d)) in
     let y = mul-assoc 2 d (below (nearest p d)) in
     let u = mul-add d (above k) (above (nearest p d)) in

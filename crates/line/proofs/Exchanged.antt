@@ -1,26 +1,34 @@
 -- Step i from one end is step L − i from the other: the exact short coordinate is the same number there, and so is the whole
 -- number nearest to it, whichever end is first.
 use Prim.Native.Nat.{ℕ, zero, suc, _+_, _-_, _*_, _≤_, _<_}
-use mathlib.Core.Path.{_≡_, refl, sym, ap, ap₂, _∙_}
+use mathlib.Core.Path.{_≡_, refl, sym, ap, ap₂, _∙_, fun-ext}
 use mathlib.Core.Logic.{inl, inr}
-use mathlib.Core.Bool.{Bool, true, false, cond, _&&_}
+use mathlib.Core.Bool.{Bool, true, false, cond, _&&_, _||_, or-comm}
+use mathlib.Core.List.{List}
 use native.Mathlib.Omega.{arith}
 use lib.IntN.{ℤ, pos, _+ℤ_, _-ℤ_, _*ℤ_}
 use lib.Signed.{ltZ}
-use Rattle.counting.specs.Count.{any}
+use Rattle.counting.specs.Count.{any, count}
 use Rattle.counting.proofs.Boolean.{bool-iff}
 use Rattle.counting.proofs.Any.{any-find, any-make}
-use Rattle.coordinate.specs.Coordinate.{apart, same}
+use Rattle.counting.proofs.Counted.{count-cong}
+use Rattle.counting.proofs.Summed.{count-back}
+use Rattle.coordinate.specs.Coordinate.{outOfRange, apart, same}
 use Rattle.coordinate.specs.Nearest.{nearest}
 use Rattle.coordinate.specs.declared.Pixel.{Pixel}
 use Rattle.coordinate.proofs.Difference.{Diff, above, below, diff-parts, diff-eq, diff-add, diff-minus, diff-plus, diff-less, diff-times, diff-apart, diff-lt, diff-nlt}
 use Rattle.coordinate.proofs.Nearest.{nearest-shift}
+use Rattle.raster.specs.Raster.{plus, inWindow}
+use Rattle.raster.specs.Fresh.{freshCount}
+use Rattle.raster.specs.Drawn.{marks}
+use Rattle.raster.specs.declared.window.Window.{Window}
 use Rattle.interpolation.specs.Interpolation.{m, Rounding}
 use Rattle.interpolation.proofs.Exchanged.{Opposite, m-back}
-use Rattle.line.specs.Line.{long, short, axis, toward, interpolated, pixel, onLine}
+use Rattle.line.specs.Line.{long, short, axis, toward, interpolated, pixel, onLine, endsOut}
 use Rattle.line.specs.Distance.{offset, distance}
 use Rattle.line.specs.PixelFacts.{firstLong, secondLong, firstAcross, secondAcross}
-use Rattle.line.specs.Exchanged.{exchanged, SamePixels}
+use Rattle.line.specs.Drawing.{lineCount, lineFresh, lineMarks, lineRaster}
+use Rattle.line.specs.Exchanged.{exchanged, SamePixels, SameDrawing}
 use Rattle.line.specs.declared.ends.Ends.{Ends}
 use Rattle.line.proofs.Laid.{laid, pixel-laid, by-axis}
 use Rattle.line.proofs.Halves.{offsetFor, offset-is}
@@ -160,6 +168,18 @@ module _ (e : Ends) where
       there : ℕ → Bool
       there i = spot (pixel (exchanged e) i)
 
+  ends-out-back : endsOut (exchanged e) ≡ endsOut e
+  unfolding endsOut
+  ends-out-back = or-comm (outOfRange (e .x1) || outOfRange (e .y1)) (outOfRange (e .x0) || outOfRange (e .y0))
+
+  counts-back : (w : Window) → lineCount (exchanged e) w ≡ lineCount e w
+  unfolding lineCount
+  counts-back w =
+      let here : ℕ → Bool = λ i. inWindow w (pixel e i) in
+      ap (λ (n : ℕ). count (suc n) (λ i. inWindow w (pixel (exchanged e) i))) long-back
+      ∙ count-cong (suc (long e)) _ _ (λ i l. ap (inWindow w) (pixel-back i (suc (long e) - 1 - i) (omega arith)))
+      ∙ count-back (suc (long e)) here
+
   -- the same pixels, step by step from the other end
   pub same-pixels : SamePixels e
   same-pixels =
@@ -170,4 +190,22 @@ module _ (e : Ends) where
         pixel-is = λ i q. pixel-back i (long e - i) (omega arith);
         distance-is = λ i q. distance-back i (long e - i) (omega arith);
         on-line = on-back;
+        ends-out = ends-out-back;
+        counts = counts-back;
       }
+
+  -- as predicates, by which a drawing is defined
+  pub same-predicate : onLine (exchanged e) ≡ onLine e
+  same-predicate = fun-ext (λ x. fun-ext (λ y. on-back x y))
+
+  module _ (w : Window) (s : List ℕ) where
+    pub same-marks : lineMarks (exchanged e) w s ≡ lineMarks e w s
+    unfolding lineFresh
+    same-marks = ap₂ marks (counts-back w) (ap (freshCount w s) same-predicate)
+
+    pub same-raster : lineRaster (exchanged e) w s ≡ lineRaster e w s
+    unfolding lineRaster
+    same-raster = ap (plus w s) same-predicate
+
+    pub same-drawing : SameDrawing e w s
+    same-drawing = record { answers = rw (ends-out-back, same-marks); leaves = rw (ends-out-back, same-raster) }

@@ -4,3 +4,6 @@ pub mod PixelFacts
 pub mod Pixels
 pub mod Exchanged
 pub mod Conditions
+pub mod Nudge
+pub mod NearLine
+pub mod FirstEnd

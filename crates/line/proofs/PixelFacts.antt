@@ -11,11 +11,11 @@ use Rattle.coordinate.specs.Coordinate.{apart}
 use Rattle.coordinate.specs.Nearest.{nearest, WithinHalf}
 use Rattle.coordinate.proofs.Difference.{Diff, above, below, diff-parts, diff-add, diff-plus, diff-less, diff-times, diff-apart, diff-lt, diff-nlt, diff-le}
 use Rattle.coordinate.proofs.Nearest.{nearest-shift, nearest-facts}
-use Rattle.line.specs.Line.{long, toward, interpolated, pixel, longOf, acrossOf}
+use Rattle.line.specs.Line.{long, toward, interpolated, pixel, acrossOf}
 use Rattle.line.specs.Distance.{distance}
 use Rattle.line.specs.PixelFacts.{firstLong, secondLong, firstAcross, secondAcross, exactTimesL, LongCoordinate, ShortCoordinate, ByDistance}
 use Rattle.line.specs.declared.ends.Ends.{Ends}
-use Rattle.line.proofs.Laid.{pixel-laid, long-laid, across-laid, by-axis}
+use Rattle.line.proofs.Laid.{long-pixel, across-pixel, by-axis}
 use Rattle.line.proofs.Halves.{no-gap, interpolated-first, across-most, offset-is, pixel-is}
 
 -- ---- the long coordinate
@@ -44,19 +44,13 @@ toward-far a b n = go (ltZ b a) refl
           λ q. omega (arith, diff-apart (a +ℤ pos n) b _ _ _ _ N B, diff-apart a b _ _ _ _ A B, diff-nlt b a _ _ _ _ B A .0 t),
         )
 
-long-is : (e : Ends) (i : ℕ) → longOf e (pixel e i) ≡ toward (firstLong e) (secondLong e) i
-long-is e i = ap (longOf e) (pixel-laid e i) ∙ long-laid e _ _
-
-across-is : (e : Ends) (i : ℕ) → acrossOf e (pixel e i) ≡ interpolated (firstAcross e) (secondAcross e) (long e) i
-across-is e i = ap (acrossOf e) (pixel-laid e i) ∙ across-laid e _ _
-
 module _ (e : Ends) (i : ℕ) where
   pub long-coordinate : LongCoordinate e i
   long-coordinate =
       let w = toward-far (firstLong e) (secondLong e) i in
       record {
-        from-first = rw (long-is e i) (w .0);
-        to-second = λ q. rw (long-is e i) (omega (arith, w .1 (omega (arith, by-axis e .0)), by-axis e .0));
+        from-first = rw (long-pixel e i) (w .0);
+        to-second = λ q. rw (long-pixel e i) (omega (arith, w .1 (omega (arith, by-axis e .0)), by-axis e .0));
       }
 
   -- ---- the short coordinate
@@ -80,7 +74,7 @@ module _ (e : Ends) (i : ℕ) where
   module _ (l : 1 ≤ long e) where
     nearest-one : acrossOf e (pixel e i) ≡ nearest (exactTimesL e i) (long e)
     unfolding interpolated
-    nearest-one = across-is e i ∙ sym (nearest-shift (firstAcross e) (pos i *ℤ (secondAcross e -ℤ firstAcross e)) (long e) l)
+    nearest-one = across-pixel e i ∙ sym (nearest-shift (firstAcross e) (pos i *ℤ (secondAcross e -ℤ firstAcross e)) (long e) l)
 
     within-half : WithinHalf (exactTimesL e i) (long e) (acrossOf e (pixel e i))
     within-half = rw nearest-one (nearest-facts (exactTimesL e i) (long e) l .within)
@@ -91,7 +85,7 @@ module _ (e : Ends) (i : ℕ) where
   module _ (l : long e ≡ 0) where
     one-pixel : acrossOf e (pixel e i) ≡ firstAcross e
     one-pixel =
-        across-is e i
+        across-pixel e i
         ∙ ap (λ (n : ℕ). interpolated (firstAcross e) (secondAcross e) n i) l
         ∙ interpolated-first (firstAcross e) (secondAcross e) i (omega (arith, across-most e))
 

@@ -1,11 +1,12 @@
 -- Run k from one end is run S − k from the other: the same steps, counted back, so the same three numbers.
-use Prim.Native.Nat.{ℕ, _+_, _-_, _≤_}
+use Prim.Native.Nat.{ℕ, _+_, _-_, _*_, _≤_}
 use mathlib.Core.Path.{_≡_, refl, sym, ap, ap₂, _∙_}
 use mathlib.Core.Bool.{Bool, true, false, cond}
-use mathlib.Core.List.{reverse}
+use mathlib.Core.List.{List, _++_, reverse}
 use native.Mathlib.Omega.{arith}
 use lib.IntN.{ℤ}
 use lib.Signed.{ltZ}
+use lib.ListN.{length, drop}
 use Rattle.counting.specs.Count.{each}
 use Rattle.counting.proofs.Each.{each-cong, each-back}
 use Rattle.coordinate.specs.Coordinate.{along}
@@ -13,18 +14,24 @@ use Rattle.coordinate.specs.declared.Axis.{Axis}
 use Rattle.coordinate.proofs.Difference.{diff-parts, diff-eq, diff-lt, diff-nlt}
 use Rattle.interpolation.specs.Runs.{runFirst, runPixels}
 use Rattle.interpolation.proofs.Exchanged.{first-back, pixels-back}
-use Rattle.runs.specs.Run.{Run}
+use Rattle.refusal.specs.Refusal.{given, firstMet}
+use Rattle.raster.specs.declared.window.Window.{Window}
+use Rattle.runs.specs.Run.{Run, runList}
 use Rattle.line.specs.Line.{long, short, toward, longOf, acrossOf}
 use Rattle.line.specs.Distance.{offset, pixelAt}
 use Rattle.line.specs.PixelFacts.{firstLong, secondLong, firstAcross, secondAcross}
+use Rattle.line.specs.Drawing.{lineConditions}
 use Rattle.line.specs.Exchanged.{exchanged}
 use Rattle.line.specs.declared.ends.Ends.{Ends}
 use Rattle.line.proofs.Laid.{long-at, across-at, by-axis}
 use Rattle.line.proofs.Pixels.{short-le, rounding}
-use Rattle.line.proofs.Exchanged.{toward-back, opposite, rounding-back, same-pixels}
-use Rattle.line_list.specs.Runs.{lies, lower, firstStep, pixelsOf, run}
-use Rattle.line_list.specs.Exchanged.{RunsReversed}
+use Rattle.line.proofs.Exchanged.{toward-back, opposite, rounding-back, same-pixels, same-marks, same-raster}
+use Rattle.line_list.specs.Runs.{lies, lower, firstStep, pixelsOf, run, runs}
+use Rattle.line_list.specs.Listing.{lineList}
+use Rattle.line_list.specs.RunFacts.{ListedAndPainted}
+use Rattle.line_list.specs.Exchanged.{RunsReversed, ListReversed, ReversedPainted}
 use Rattle.line_list.proofs.RunPixels.{runs-each, lengths}
+use Rattle.line_list.proofs.RunFacts.{listed-and-painted}
 
 lower-back : (x y : ℤ) → lower x y ≡ lower y x
 lower-back x y = go (ltZ y x) (ltZ x y) refl refl
@@ -98,3 +105,31 @@ module _ (e : Ends) where
             ∙ sym (each-back (short e + 1) (run e))
             ∙ ap reverse (sym (runs-each e));
       }
+
+  -- ---- lister and painter
+
+  module _ (list : List ℤ) where
+    list-reversed : lineList (exchanged e) list ≡ runList (reverse (runs e)) ++ drop (3 * (short e + 1)) list
+    unfolding lineList
+    list-reversed =
+        ap₂ (λ (rs : List Run) (n : ℕ). runList rs ++ drop (3 * (n + 1)) list) (runs-reversed .runs-are) (same-pixels e .short-is)
+
+    pub reversed : ListReversed e list
+    reversed =
+        let p = same-pixels e in
+        record {
+          answers = rw (p .ends-out, p .short-is, p .axis-is);
+          leaves = rw (p .ends-out, p .short-is, list-reversed);
+        }
+
+    module _ (w : Window) (s : List ℕ) where
+      painted : firstMet (lineConditions e w (length s)) ≡ 0 → ListedAndPainted (exchanged e) list w s
+      painted h = listed-and-painted (exchanged e) list w s (rw (same-pixels e .ends-out) h)
+
+      pub reversed-painted : ReversedPainted e list w s
+      reversed-painted =
+          let p = same-pixels e in
+          record {
+            answer-is = λ h. (rw (p .axis-is, p .short-is) at (painted h .answer-is)) ∙ ap given (same-marks e w s);
+            raster-is = λ h. (rw (p .axis-is, p .short-is) at (painted h .raster-is)) ∙ same-raster e w s;
+          }
