@@ -3,7 +3,7 @@ use crate::c::{self, Drawn, Found, Frame, FrameDrawn, Listed, Part};
 use paper::frame::Pixel;
 use paper::line::Axis;
 use paper::pen::{Point, Report};
-use paper::raster::Marks;
+use paper::raster::{marks, Marks};
 use paper::reel::read::Place;
 use paper::refusal::Refusal;
 use paper::runs::Listing;
@@ -52,6 +52,13 @@ impl From<Result<Marks, Refusal>> for Drawn {
             count: marks.count,
             fresh: marks.fresh,
         }
+    }
+}
+
+impl Drawn {
+    /// Both counts of the answer.
+    pub fn marks(self) -> Marks {
+        marks(self.count, self.fresh)
     }
 }
 

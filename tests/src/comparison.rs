@@ -3,6 +3,7 @@
 //! changed as well.
 mod pen;
 pub mod reel;
+pub mod ways;
 
 use crate::added::added;
 use crate::answers::{axis_named, axis_number, number};
@@ -12,7 +13,7 @@ use crate::report::Report;
 use paper::draw::{draw, draw_band, Band};
 use paper::frame::Window;
 use paper::line::Line;
-use paper::raster::{first_marked, marks, row_view, Marks};
+use paper::raster::{first_marked, row_view};
 use paper::runs::{list_runs, paint_runs};
 use paper::text::printed;
 use std::fmt::Debug;
@@ -46,6 +47,24 @@ impl Stored<'_> {
             axis: axis_number(line.axis),
             count: line.short as u32 + 1,
             list,
+        }
+    }
+}
+
+/// What the lister answered, and the list as it left it.
+#[derive(Debug, PartialEq)]
+pub struct Listing {
+    pub answer: c::Listed,
+    pub list: Vec<i32>,
+}
+
+impl Listing {
+    /// The list with the axis and the number of runs that the lister answered.
+    pub fn stored(&self) -> Stored<'_> {
+        Stored {
+            axis: self.answer.axis,
+            count: self.answer.runs,
+            list: &self.list,
         }
     }
 }
@@ -121,14 +140,14 @@ impl Comparison {
         self.equal(what, one, other);
     }
 
-    /// A drawer on a raster of its own; hands back the library's counts.
-    pub fn draw(&mut self, drawer: Drawer, line: &Line, window: Window, start: &[u8]) -> Marks {
+    /// A drawer on a raster of its own; hands back the library's answer.
+    pub fn draw(&mut self, drawer: Drawer, line: &Line, window: Window, start: &[u8]) -> c::Drawn {
         self.raster.lend(start);
         self.draw_again(drawer, line, window)
     }
 
-    /// A drawer on the raster as the case before left it; hands back the library's counts.
-    pub fn draw_again(&mut self, drawer: Drawer, line: &Line, window: Window) -> Marks {
+    /// A drawer on the raster as the case before left it; hands back the library's answer.
+    pub fn draw_again(&mut self, drawer: Drawer, line: &Line, window: Window) -> c::Drawn {
         let start = self.raster.contents().to_vec();
         self.expect_from(&start);
         let raster = self.raster.again();
@@ -149,11 +168,11 @@ impl Comparison {
             let raster = self.raster.tell("raster", &start, &self.expected);
             format!("{call}\n{numbers}{raster}")
         });
-        marks(answer.count, answer.fresh)
+        answer
     }
 
-    /// The lister; hands back the list as the library left it.
-    pub fn list(&mut self, line: &Line, start: &[i32]) -> &[i32] {
+    /// The lister; hands back what the library answered and left.
+    pub fn list(&mut self, line: &Line, start: &[i32]) -> Listing {
         let answer = c::list_runs(line.ends, self.list.lend(start));
         let mut list = start.to_vec();
         let expected = c::Listed::from(list_runs(line, &mut list));
@@ -163,22 +182,25 @@ impl Comparison {
             let list = self.list.tell("list", start, &list);
             format!("{call}\n  answer {answer:?}\n  expected {expected:?}\n{list}")
         });
-        self.list.contents()
+        Listing {
+            answer,
+            list: self.list.contents().to_vec(),
+        }
     }
 
-    /// The painter; hands back the library's counts.
-    pub fn paint(&mut self, stored: Stored, window: Window, start: &[u8]) -> Marks {
+    /// The painter; hands back the library's answer.
+    pub fn paint(&mut self, stored: Stored, window: Window, start: &[u8]) -> c::Drawn {
         let Stored { axis, count, list } = stored;
         let mut after = std::mem::take(&mut self.expected);
         after.clear();
         after.extend_from_slice(start);
         let expected = paint_runs(axis_named(axis), count, list, window, &mut after);
-        let counts = self.paint_known(stored, window, start, expected.into(), &after);
+        let answer = self.paint_known(stored, window, start, expected.into(), &after);
         self.expected = after;
-        counts
+        answer
     }
 
-    /// The painter, with an answer and a raster that are known; hands back the library's counts.
+    /// The painter, with an answer and a raster that are known; hands back the library's answer.
     pub fn paint_known(
         &mut self,
         stored: Stored,
@@ -186,7 +208,7 @@ impl Comparison {
         start: &[u8],
         expected: c::Drawn,
         after: &[u8],
-    ) -> Marks {
+    ) -> c::Drawn {
         let Stored { axis, count, list } = stored;
         let lent = self.list.lend(list);
         let answer = c::paint_runs(axis, count, lent, window, self.raster.lend(start));
@@ -200,7 +222,7 @@ impl Comparison {
             let list = self.list.tell("list", list, list);
             format!("{call}\n{numbers}{list}{raster}")
         });
-        marks(answer.count, answer.fresh)
+        answer
     }
 
     pub fn row(&mut self, window: Window, start: &[u8], row: u32) {

@@ -9,10 +9,12 @@ mod answers;
 mod buffer;
 mod c;
 mod comparison;
+mod differing;
 mod make;
 mod parts;
 mod random;
 mod report;
+mod steps;
 mod within;
 
 use comparison::Comparison;
@@ -24,9 +26,11 @@ const SEED: u64 = 1;
 
 type Run = fn(&mut Comparison, &mut Random);
 
-const PARTS: [(&str, Run); 16] = [
+const PARTS: [(&str, Run); 18] = [
     ("all lines of a small square", parts::square::run),
     ("random lines", parts::lines::run),
+    ("nudged ends", parts::nudged::run),
+    ("exchanged ends", parts::exchanged::run),
     ("hostile windows and rasters", parts::hostile::windows::run),
     ("hostile ends", parts::hostile::ends::run),
     ("hostile bands", parts::hostile::bands::run),

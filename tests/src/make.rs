@@ -1,6 +1,6 @@
 //! Random arguments within the limits: ends of many kinds, windows near a line, rasters and lists to start from.
 use crate::random::Random;
-use paper::frame::{self, pixel, window, Ends, Pixel, Window, HIGHEST, LOWEST};
+use paper::frame::{self, ends_out, pixel, window, Ends, Pixel, Window, HIGHEST, LOWEST};
 use paper::line::Line;
 
 const FIRST: i32 = LOWEST as i32;
@@ -164,6 +164,15 @@ pub fn raster(random: &mut Random, window: Window) -> Vec<u8> {
         set_padding(window, &mut raster);
     }
     raster
+}
+
+/// The length of the line's list, in numbers; a line that is refused has none, and any will do.
+pub fn needed(line: &Line) -> usize {
+    if ends_out(line.ends) {
+        3
+    } else {
+        3 * (line.short as usize + 1)
+    }
 }
 
 /// Numbers of any size.

@@ -3,6 +3,8 @@ use crate::frame::{ends_out, pixel, Ends, Pixel};
 
 #[cfg(test)]
 mod halves;
+#[cfg(test)]
+mod nudge;
 
 #[derive(Clone, Copy, Debug, PartialEq)]
 pub enum Axis {

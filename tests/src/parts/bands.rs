@@ -3,7 +3,7 @@
 //! whole line and with painting. The new pixels of all calls are those that the raster has more at the end.
 use crate::added::added;
 use crate::comparison::{Comparison, Drawer, Stored};
-use crate::make::{ends, numbers, pixel_of, raster, window_at};
+use crate::make::{ends, needed, numbers, pixel_of, raster, window_at};
 use crate::random::Random;
 use paper::draw::Band;
 use paper::frame::Window;
@@ -95,21 +95,21 @@ impl Job {
         comparison.lend(&self.start);
         let bands = calls.iter().map(|band| Drawer::Band(*band));
         let counts = bands
-            .map(|band| comparison.draw_again(band, &self.line, self.window))
+            .map(|band| comparison.draw_again(band, &self.line, self.window).marks())
             .sum();
         outcome(comparison, counts)
     }
 
     fn whole(&self, comparison: &mut Comparison) -> Outcome {
-        let counts = comparison.draw(Drawer::Single, &self.line, self.window, &self.start);
-        outcome(comparison, counts)
+        let answer = comparison.draw(Drawer::Single, &self.line, self.window, &self.start);
+        outcome(comparison, answer.marks())
     }
 
     fn listed_and_painted(&self, comparison: &mut Comparison, random: &mut Random) -> Outcome {
-        let empty = numbers(random, 3 * (self.line.short as usize + 1));
-        let list = comparison.list(&self.line, &empty).to_vec();
-        let counts = comparison.paint(Stored::of(&self.line, &list), self.window, &self.start);
-        outcome(comparison, counts)
+        let empty = numbers(random, needed(&self.line));
+        let list = comparison.list(&self.line, &empty).list;
+        let answer = comparison.paint(Stored::of(&self.line, &list), self.window, &self.start);
+        outcome(comparison, answer.marks())
     }
 }
 

@@ -23,7 +23,7 @@ const ENDS: [Ends; 7] = [
 
 fn draw(comparison: &mut Comparison, window: Window, start: &[u8], ends: Ends) {
     let line = Line::new(ends);
-    let list = comparison.list(&line, &vec![7; 98_304]).to_vec();
+    let list = comparison.list(&line, &vec![7; 98_304]).list;
     comparison.draw(Drawer::Single, &line, window, start);
     comparison.draw(Drawer::Double, &line, window, start);
     for (first, rows) in [(0, SIDE), (SIDE - 1, 1), (4095, 4096), (1, SIDE)] {

@@ -1,7 +1,7 @@
 //! Random lines over the whole coordinate range, each in some windows at it and far from it, by every drawer, once more where
 //! it is drawn already, by listing and painting, and in a band.
 use crate::comparison::{Comparison, Drawer, Stored};
-use crate::make::{ends, numbers, raster, window_near};
+use crate::make::{ends, needed, numbers, raster, window_near};
 use crate::random::Random;
 use paper::draw::Band;
 use paper::frame::Window;
@@ -17,10 +17,9 @@ pub fn band(random: &mut Random, window: Window) -> Band {
     Band { first, rows }
 }
 
-/// The line's list: as long as it must be, longer, or one number short.
-fn list_len(random: &mut Random, line: &Line) -> usize {
-    let needed = 3 * (line.short as usize + 1);
-    needed + random.pick(&[0, 0, 1, 7]) as usize - usize::from(random.one_in(8))
+/// The length of a list for the line: as long as it must be, longer, or one number short.
+pub fn list_len(random: &mut Random, line: &Line) -> usize {
+    needed(line) + random.pick(&[0, 0, 1, 7]) as usize - usize::from(random.one_in(8))
 }
 
 fn in_window(comparison: &mut Comparison, random: &mut Random, line: &Line, stored: Stored) {
@@ -39,7 +38,7 @@ pub fn run(comparison: &mut Comparison, random: &mut Random) {
             let line = Line::new(ends(random, reach));
             let len = list_len(random, &line);
             let start = numbers(random, len);
-            let list = comparison.list(&line, &start).to_vec();
+            let list = comparison.list(&line, &start).list;
             let stored = Stored::of(&line, &list);
             for _ in 0..windows {
                 in_window(comparison, random, &line, stored);

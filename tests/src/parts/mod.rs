@@ -1,8 +1,10 @@
 //! The parts of the comparison, one file each.
 pub mod bands;
+pub mod exchanged;
 pub mod hostile;
 pub mod largest;
 pub mod lines;
+pub mod nudged;
 pub mod pen;
 pub mod reel;
 pub mod rows;

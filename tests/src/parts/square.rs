@@ -44,13 +44,13 @@ fn all_ends() -> Vec<Ends> {
 
 /// The line in the window, each way of drawing from the same start.
 fn every_way(comparison: &mut Comparison, line: &Line, list: &[i32], window: Window, start: &[u8]) {
-    let whole = comparison.draw(Drawer::Single, line, window, start);
+    let whole = comparison.draw(Drawer::Single, line, window, start).marks();
     comparison.draw(Drawer::Double, line, window, start);
     comparison.paint(Stored::of(line, list), window, start);
     comparison.lend(start);
     let bands = (0..window.height).map(|first| Drawer::Band(Band { first, rows: 1 }));
     let rows: Marks = bands
-        .map(|band| comparison.draw_again(band, line, window))
+        .map(|band| comparison.draw_again(band, line, window).marks())
         .sum();
     comparison.same("row by row, and the whole", line, window, &rows, &whole);
 }
@@ -63,7 +63,7 @@ pub fn run(comparison: &mut Comparison, random: &mut Random) {
     for ends in all_ends() {
         let line = Line::new(ends);
         let start = numbers(random, 3 * SIDE as usize);
-        let list = comparison.list(&line, &start).to_vec();
+        let list = comparison.list(&line, &start).list;
         for window in &windows {
             let start = raster(random, *window);
             every_way(comparison, &line, &list, *window, &start);

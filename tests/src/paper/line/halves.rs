@@ -7,8 +7,11 @@ use crate::known::{line, numbers, pixels};
 use crate::raster::marks;
 use crate::text::printed;
 
+/// The coordinates of small lines are from -REACH to REACH.
+pub const REACH: i32 = 6;
+
 /// The short coordinates in the order of the steps.
-fn shorts(line: &Line) -> Vec<i32> {
+pub fn shorts(line: &Line) -> Vec<i32> {
     let short = |(column, row)| match line.axis {
         Axis::X => row,
         Axis::Y => column,
@@ -146,9 +149,9 @@ fn raster_and_text_of_falling_halves() {
 }
 
 /// The lines of all pairs of ends in a square around (0, 0).
-fn small_lines() -> Vec<Line> {
-    let side = 13;
-    let place = |n: i32| (n % side - 6, n / side % side - 6);
+pub fn small_lines() -> Vec<Line> {
+    let side = 2 * REACH + 1;
+    let place = |n: i32| (n % side - REACH, n / side % side - REACH);
     let pair = |n: i32| {
         let ((x0, y0), (x1, y1)) = (place(n), place(n / (side * side)));
         line(x0, y0, x1, y1)

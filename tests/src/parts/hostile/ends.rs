@@ -1,10 +1,10 @@
 //! All ends of hostile numbers in a few windows, with lists one number short, just long enough, and longer.
 use super::ENDS;
 use crate::comparison::{Comparison, Drawer};
-use crate::make::{numbers, raster};
+use crate::make::{needed, numbers, raster};
 use crate::random::Random;
 use paper::draw::Band;
-use paper::frame::{self, ends_out, window, Ends, Window};
+use paper::frame::{self, window, Ends, Window};
 use paper::line::Line;
 
 /// The last one is refused itself.
@@ -23,15 +23,6 @@ fn all_ends() -> Vec<Ends> {
         .collect()
 }
 
-/// The length of the line's list; a line that is refused has none, and any will do.
-fn list_len(line: &Line) -> usize {
-    if ends_out(line.ends) {
-        3
-    } else {
-        3 * (line.short as usize + 1)
-    }
-}
-
 pub fn run(comparison: &mut Comparison, random: &mut Random) {
     for ends in all_ends() {
         let line = Line::new(ends);
@@ -42,7 +33,7 @@ pub fn run(comparison: &mut Comparison, random: &mut Random) {
             let band = Band { first: 0, rows: 1 };
             comparison.draw(Drawer::Band(band), &line, window, &start);
         }
-        let needed = list_len(&line);
+        let needed = needed(&line);
         for len in [0, needed - 1, needed, needed + 2] {
             comparison.list(&line, &numbers(random, len));
         }

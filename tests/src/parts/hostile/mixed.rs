@@ -3,7 +3,7 @@ use super::{bytes, everything, raster_lengths, ENDS, ROWS, SIDES};
 use crate::comparison::Comparison;
 use crate::random::Random;
 use paper::draw::Band;
-use paper::frame::{ends, window, Window};
+use paper::frame::{ends, window, Ends, Window};
 use paper::line::Line;
 
 const CASES: u32 = 400_000;
@@ -15,6 +15,12 @@ fn place(random: &mut Random, rarity: u32) -> i32 {
     } else {
         random.between(-12, 12)
     }
+}
+
+/// Ends near (0, 0), some with hostile coordinates.
+pub fn mixed_ends(random: &mut Random) -> Ends {
+    let mut end = || place(random, 12);
+    ends(end(), end(), end(), end())
 }
 
 fn side(random: &mut Random) -> u32 {
@@ -60,8 +66,7 @@ pub fn frame_and_band(random: &mut Random) -> (Window, Vec<u8>, Band) {
 
 pub fn run(comparison: &mut Comparison, random: &mut Random) {
     for _ in 0..CASES {
-        let mut end = || place(random, 12);
-        let line = Line::new(ends(end(), end(), end(), end()));
+        let line = Line::new(mixed_ends(random));
         let (window, start, band) = frame_and_band(random);
         everything(comparison, &line, window, &start, band);
     }

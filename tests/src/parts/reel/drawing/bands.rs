@@ -61,12 +61,9 @@ impl Job {
 
     fn line_by_line(&self, comparison: &mut Comparison) -> Outcome {
         comparison.lend(&self.start);
-        let counts = self
-            .chosen
-            .lines
-            .iter()
-            .map(|line| comparison.draw_again(Drawer::Single, line, self.window))
-            .sum();
+        let lines = self.chosen.lines.iter();
+        let answers = lines.map(|line| comparison.draw_again(Drawer::Single, line, self.window));
+        let counts = answers.map(|answer| answer.marks()).sum();
         outcome(comparison, counts)
     }
 
