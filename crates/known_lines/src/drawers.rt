@@ -1,7 +1,8 @@
 // Every drawer on one line, each on a clear raster of its own, compared with the second drawer.
+use crate::distance::from_lowest;
 use crate::second;
+use crate::small::LIST;
 use band::draw::draw_band;
-use coordinate::Coordinate;
 use line::ends::Ends;
 use line_draw::draw::draw_double;
 use line_draw::draw::draw_single;
@@ -12,7 +13,6 @@ use raster::drawn::Marks;
 use raster::window::Window;
 use runs::paint::paint_runs;
 use std::num::wrapping_add_u64;
-ghost use Prim.Native.Nat.{_<_};
 
 // The most bytes that a raster has here: a row of one pixel more than a window may have.
 pub const ROOM: usize = 1025;
@@ -32,9 +32,9 @@ pub fn bytes(window: Window) -> usize {
     window.height as usize * ((window.width as usize + 7) / 8)
 }
 
-// Lists the line's runs and paints them; the count, or the first refusal of the two. The list has room for 8 runs.
+// Lists the line's runs and paints them; the count, or the first refusal of the two.
 fn list_and_paint(ends: Ends, window: Window, raster: &mut [u8]) -> Drawn {
-    let mut list = [0i32; 24];
+    let mut list = [0i32; LIST];
     match list_runs(ends, &mut list) {
         Listed::Runs(listing) => {
             let axis = listing.axis;
@@ -142,16 +142,6 @@ fn all_draw(ends: Ends, window: Window, refusal: u32, count: u64, expected: &[u8
         return false;
     }
     draws(Drawer::Bands, ends, window, refusal, count, expected)
-}
-
-// How far a coordinate is above the lowest one; 0 for a number that is no coordinate.
-fn from_lowest(z: i32) -> u32
-    ensures { λ r. ⌜ r < 32768 ⌝ }
-{
-    if Coordinate::out_of_range(z) {
-        return 0;
-    }
-    Coordinate::biased(z)
 }
 
 // Draws the line by the second drawer and answers its count. For a line that is to be refused it leaves the raster as it is.

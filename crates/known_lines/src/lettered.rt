@@ -4,10 +4,13 @@ use crate::drawers::alike;
 use crate::drawers::bytes;
 use crate::print::print;
 use crate::print::print_end;
+use crate::print::print_ends;
+use crate::print::print_marks;
 use crate::print::print_number;
-use crate::print::print_pixel;
 use crate::print::print_signed;
 use crate::print::print_window;
+use crate::small::LIST;
+use crate::small::WINDOW;
 use coordinate::Axis;
 use line::ends::Ends;
 use line_draw::draw::draw_double;
@@ -28,7 +31,7 @@ fn print_run(first: bool, across: i32, lowest: i32, pixels: i32) {
 }
 
 // Prints a list's first runs, as many as the list has.
-fn print_runs(list: &[i32], runs: u32) {
+pub fn print_runs(list: &[i32], runs: u32) {
     let whole = list.len() / 3;
     let mut k = 0;
     while k < whole && k < runs as usize {
@@ -38,9 +41,9 @@ fn print_runs(list: &[i32], runs: u32) {
     }
 }
 
-// Prints the axis and the runs that the lister gives. The list has room for 8 runs.
+// Prints the axis and the runs that the lister gives.
 fn print_list(ends: Ends) {
-    let mut list = [0i32; 24];
+    let mut list = [0i32; LIST];
     match list_runs(ends, &mut list) {
         Listed::Runs(listing) => {
             let axis = listing.axis;
@@ -54,21 +57,11 @@ fn print_list(ends: Ends) {
     }
 }
 
-// Prints a line's letter, ends, axis and runs, and answers whether it is drawn alike in a window that holds all lettered
-// lines.
+// Prints a line's letter, ends, axis and runs, and answers whether it is drawn alike in a window that holds it.
 fn print_line(letter: u8, ends: Ends) -> bool {
-    print(&[letter, b':', b' ']);
-    print_pixel(ends.x0, ends.y0);
-    print(b" to ");
-    print_pixel(ends.x1, ends.y1);
+    print_ends(&[letter, b':', b' '], ends);
     print_list(ends);
-    let window = Window {
-        left: -12,
-        top: -12,
-        width: 24,
-        height: 24,
-    };
-    alike(ends, window, 0)
+    alike(ends, WINDOW, 0)
 }
 
 // Prints a line that the document gives without a window.
@@ -100,8 +93,7 @@ fn print_drawing_on(ends: Ends, window: Window, raster: &mut [u8]) {
     match draw_single(ends, window, raster) {
         Drawn::Marked(marks) => {
             print_bytes(raster);
-            print_number(b", count ", marks.count);
-            print_number(b", new ", marks.fresh);
+            print_marks(b", count ", marks);
         }
         Drawn::Refused(_) => print(b"refused"),
     }

@@ -1,10 +1,10 @@
-// Printing numbers and windows.
+// Printing numbers, lines and windows.
+use crate::distance::ZERO;
 use coordinate::Coordinate;
 use libc::STDOUT_FILENO;
+use line::ends::Ends;
+use raster::drawn::Marks;
 use raster::window::Window;
-
-// Coordinate 0, counted from the lowest coordinate.
-const ZERO: u32 = 16384;
 
 pub fn print(text: &[u8]) {
     io::write_all(STDOUT_FILENO, text);
@@ -38,6 +38,20 @@ pub fn print_pixel(column: i32, row: i32) {
     print(b")");
 }
 
+// Prints a text, then a line's ends.
+pub fn print_ends(text: &[u8], ends: Ends) {
+    print(text);
+    print_pixel(ends.x0, ends.y0);
+    print(b" to ");
+    print_pixel(ends.x1, ends.y1);
+}
+
+// Prints a text, then how many pixels were marked and how many of them are new.
+pub fn print_marks(text: &[u8], marks: Marks) {
+    print_number(text, marks.count);
+    print_number(b", new ", marks.fresh);
+}
+
 // Prints where and how large a window is.
 pub fn print_window(window: Window) {
     print_signed(b" in left ", window.left);
@@ -47,9 +61,9 @@ pub fn print_window(window: Window) {
     print(b": ");
 }
 
-// Ends a printed line, with `differ` where the drawers do.
-pub fn print_end(alike: bool) {
-    if !alike {
+// Ends a printed line, with `differ` where what it shows does not hold.
+pub fn print_end(holds: bool) {
+    if !holds {
         print(b" differ");
     }
     print(b"\n");

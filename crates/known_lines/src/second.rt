@@ -1,13 +1,8 @@
 // The second drawer: each coordinate by one division a step, from the definition, every pixel tested against the window.
 // Coordinates are counted from the lowest. It shares no code with the drawers that it is compared with.
+use crate::distance::apart;
+use crate::distance::larger;
 ghost use Prim.Native.Nat.{_≤_, _<_};
-
-fn apart(a: u32, b: u32) -> u32
-    requires { ⌜ (a < 32768) × (b < 32768) ⌝ }
-    ensures { λ r. ⌜ r < 32768 ⌝ }
-{
-    if a < b { b - a } else { a - b }
-}
 
 // The whole number nearest to the coordinate at step `i` of `l` on the exact way from `a` to `b`, a half to the larger. The
 // exact coordinate is a + i × (b − a) / l, which is (a × (l − i) + b × i) / l. The way along the long axis is exact.
@@ -44,13 +39,6 @@ fn mark_in(x: u32, y: u32, left: u32, top: u32, width: u32, height: u32, raster:
     }
     mark(column, row, (width as usize + 7) / 8, raster);
     1
-}
-
-fn larger(a: u32, b: u32) -> u32
-    requires { ⌜ (a < 32768) × (b < 32768) ⌝ }
-    ensures { λ r. ⌜ r < 32768 ⌝ }
-{
-    if a < b { b } else { a }
 }
 
 // Marks the line's pixels in the window and answers how many they are.

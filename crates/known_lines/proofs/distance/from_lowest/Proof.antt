@@ -3,8 +3,8 @@ use mathlib.Core.Path.{sym, _∙_}
 use native.Mathlib.Omega.{arith}
 use Rattle.coordinate.proofs.Bias.{biased-lt}
 use borrow.Author.Needs.{needs}
-use Rattle.known_lines.proofs.drawers.from_lowest.Statement.{statement}
-use Rattle.known_lines.proofs.drawers.from_lowest.Tie as tie
+use Rattle.known_lines.proofs.distance.from_lowest.Statement.{statement}
+use Rattle.known_lines.proofs.distance.from_lowest.Tie as tie
 
 out-of-range-requires : tie.Need-out-of-range-requires
 out-of-range-requires c κs = search needs
