@@ -30,7 +30,8 @@ extern "C" {
 
 /* A line: column and row of the first and of the second end. It has a pixel for each step along the larger of both differences,
  * along x where they are equal. The other coordinate is the whole number nearest to the exact one, a half to the larger, so the
- * line with its ends exchanged has the same pixels. */
+ * line with its ends exchanged has the same pixels. Where the second end moves by d in that coordinate alone and the larger
+ * difference, L, stays along the same axis, the pixel at step i moves by at most i * d / L, rounded up. */
 typedef struct { int32_t x0, y0, x1, y1; } tc_ends;
 
 /* The part of the frame that a raster shows: its first column and row, its width and height in pixels. */

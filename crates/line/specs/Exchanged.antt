@@ -21,9 +21,9 @@ pub record SamePixels (e : Ends) : Type 0 where
   pub pixel-is : (i : ℕ) → i ≤ long e → pixel (exchanged e) i ≡ pixel e (long e - i)
   pub distance-is : (i : ℕ) → i ≤ long e → distance (exchanged e) i + distance e (long e - i) ≡ short e
   pub on-line : (column row : ℤ) → onLine (exchanged e) column row ≡ onLine e column row
-  -- both are out of range, or neither
+  -- it meets 1 from both ends, or from neither
   pub ends-out : endsOut (exchanged e) ≡ endsOut e
-  -- as many of them lie in a window
+  -- as many of its pixels lie in a window
   pub counts : (w : Window) → lineCount (exchanged e) w ≡ lineCount e w
 
 -- in every window and on every start both counts are the same, or the refusal is, and so is the raster in every byte
