@@ -10,9 +10,9 @@ use Rattle.raster.specs.Drawn.{freshOf}
 use Rattle.raster.specs.declared.window.Window.{Window}
 use Rattle.line.specs.Exchanged.{exchanged}
 use Rattle.line.specs.declared.ends.Ends.{Ends}
-use Rattle.line.proofs.Exchanged.{same-pixels, same-predicate}
+use Rattle.line.proofs.Exchanged.{same-pixels, same-predicate, same-marks}
 use Rattle.band.specs.Drawing.{bandFresh, bandRaster, bandAnswer, bandAfter}
-use Rattle.band.specs.Calls.{Band, afterBands, freshCalls, bandAt, bandList, refusedCalls}
+use Rattle.band.specs.Calls.{Band, afterBands, freshCalls, bandAt, bandList, refusedCalls, bandCalls}
 use Rattle.band.specs.Exchanged.{SameBands}
 
 module _ (e : Ends) (w : Window) where
@@ -44,13 +44,17 @@ module _ (e : Ends) (w : Window) where
   calls-refused s list =
       count-cong (length list / 2) _ _ (λ k l. ap isRefused (answers s (bandAt list k .first) (bandAt list k .rows)))
 
+  calls-answer : (s list : List ℕ) → bandCalls (exchanged e) w s list ≡ bandCalls e w s list
+  calls-answer s list =
+      ap₂ (λ (refused fresh : ℕ). record { refused = refused; fresh = fresh }) (calls-refused s list) (calls-fresh s (bandList list))
+
   pub same-bands : (s : List ℕ) → SameBands e w s
   same-bands s =
+      let p = same-pixels e in
       record {
         answers = answers s;
         leaves = leaves s;
-        calls-answer =
-            λ list.
-            ap₂ (λ (refused fresh : ℕ). record { refused = refused; fresh = fresh }) (calls-refused s list) (calls-fresh s (bandList list));
+        calls-answer = calls-answer s;
         calls-leave = calls-leave s;
+        both-ways = λ list bands t. rw (p .ends-out, p .short-is, p .axis-is, same-marks e w s, calls-answer t bands);
       }

@@ -1,6 +1,6 @@
 -- Document 02, 6/13: two lines from one first end whose second ends differ in the short coordinate only. At each step their pixels
--- differ little, and elsewhere their rasters are the same; the proofs are in proofs/Nudge.antt,
--- NearLine.antt and FirstEnd.antt. Assumes nothing.
+-- differ little, and away from these their rasters are the same; the proofs are in proofs/Nudge.antt, NearLine.antt and
+-- FirstEnd.antt. Assumes nothing.
 use Prim.Native.Nat.{ℕ, suc, _-_, _*_, _≤_}
 use mathlib.Core.Path.{_≡_}
 use mathlib.Core.Bool.{Bool, _&&_}

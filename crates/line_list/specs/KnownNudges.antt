@@ -14,27 +14,27 @@ use Rattle.line.specs.declared.ends.Ends.{Ends}
 use Rattle.line_list.specs.Known.{from, at, minus}
 
 -- the short coordinates at steps 0 to L, of one line and of another with the same L, and at most how far apart they may be
-pub record Apart (e f : Ends) (one other : List ℤ) (most : List ℕ) : Type 0 where
+pub record StepByStep (e f : Ends) (one other : List ℤ) (most : List ℕ) : Type 0 where
   pub one-is : each (long e + 1) (λ i. acrossOf e (pixel e i)) ≡ one
   pub other-is : each (long f + 1) (λ i. acrossOf f (pixel f i)) ≡ other
   pub most-is : each (long e + 1) (reach e (nudge e f)) ≡ most
 
 pub record KnownNudges : Type 0 where
   -- 1/2 goes to 1 and −1/2 to 0, on either side of the first end
-  pub halves : Apart (from (pos 0) (pos 0) (pos 2) (pos 1)) (from (pos 0) (pos 0) (pos 2) (minus 1))
+  pub halves : StepByStep (from (pos 0) (pos 0) (pos 2) (pos 1)) (from (pos 0) (pos 0) (pos 2) (minus 1))
       (pos 0 ∷ pos 1 ∷ pos 1 ∷ []) (pos 0 ∷ pos 0 ∷ minus 1 ∷ []) (0 ∷ 1 ∷ 2 ∷ [])
   -- a half rounded up: at step 1 the pixels are one apart, and 1 × 1 / 2 rounded down would be 0
-  pub rounded-up : Apart (from (pos 0) (pos 0) (pos 2) (pos 0)) (from (pos 0) (pos 0) (pos 2) (pos 1))
+  pub rounded-up : StepByStep (from (pos 0) (pos 0) (pos 2) (pos 0)) (from (pos 0) (pos 0) (pos 2) (pos 1))
       (pos 0 ∷ pos 0 ∷ pos 0 ∷ []) (pos 0 ∷ pos 1 ∷ pos 1 ∷ []) (0 ∷ 1 ∷ 1 ∷ [])
   -- 0, 1/2, 1, 3/2, 2, 5/2, 3 and 0, 1/3, 2/3, 1, 4/3, 5/3, 2
-  pub by-one : Apart (from (pos 0) (pos 0) (pos 6) (pos 3)) (from (pos 0) (pos 0) (pos 6) (pos 2))
+  pub by-one : StepByStep (from (pos 0) (pos 0) (pos 6) (pos 3)) (from (pos 0) (pos 0) (pos 6) (pos 2))
       (pos 0 ∷ pos 1 ∷ pos 1 ∷ pos 2 ∷ pos 2 ∷ pos 3 ∷ pos 3 ∷ []) (pos 0 ∷ pos 0 ∷ pos 1 ∷ pos 1 ∷ pos 1 ∷ pos 2 ∷ pos 2 ∷ [])
       (0 ∷ 1 ∷ 1 ∷ 1 ∷ 1 ∷ 1 ∷ 1 ∷ [])
   -- downwards: 0, 1/4, 1/2, 3/4, 1 and their negatives
-  pub along-y : Apart (from (pos 0) (pos 0) (pos 1) (pos 4)) (from (pos 0) (pos 0) (minus 1) (pos 4))
+  pub along-y : StepByStep (from (pos 0) (pos 0) (pos 1) (pos 4)) (from (pos 0) (pos 0) (minus 1) (pos 4))
       (pos 0 ∷ pos 0 ∷ pos 1 ∷ pos 1 ∷ pos 1 ∷ []) (pos 0 ∷ pos 0 ∷ pos 0 ∷ minus 1 ∷ minus 1 ∷ []) (0 ∷ 1 ∷ 1 ∷ 2 ∷ 2 ∷ [])
   -- to the left, half a row a step up and down from −2: as far apart as may be at every step
-  pub to-the-left : Apart (from (pos 3) (minus 2) (minus 3) (pos 1)) (from (pos 3) (minus 2) (minus 3) (minus 5))
+  pub to-the-left : StepByStep (from (pos 3) (minus 2) (minus 3) (pos 1)) (from (pos 3) (minus 2) (minus 3) (minus 5))
       (minus 2 ∷ minus 1 ∷ minus 1 ∷ pos 0 ∷ pos 0 ∷ pos 1 ∷ pos 1 ∷ [])
       (minus 2 ∷ minus 2 ∷ minus 3 ∷ minus 3 ∷ minus 4 ∷ minus 4 ∷ minus 5 ∷ []) (0 ∷ 1 ∷ 2 ∷ 3 ∷ 4 ∷ 5 ∷ 6 ∷ [])
 
