@@ -1,12 +1,12 @@
 -- Step i from one end is step L − i from the other: the exact short coordinate is the same number there, and so is the whole
 -- number nearest to it, whichever end is first.
-use Prim.Native.Nat.{ℕ, zero, suc, _+_, _-_, _*_, _≤_, _<_}
+use Prim.Native.Nat.{ℕ, zero, suc, _+_, _-_, _≤_, _<_}
 use mathlib.Core.Path.{_≡_, refl, sym, ap, ap₂, _∙_, fun-ext}
 use mathlib.Core.Logic.{inl, inr}
 use mathlib.Core.Bool.{Bool, true, false, cond, _&&_, _||_, or-comm}
 use mathlib.Core.List.{List}
 use native.Mathlib.Omega.{arith}
-use lib.IntN.{ℤ, pos, _+ℤ_, _-ℤ_, _*ℤ_}
+use lib.IntN.{ℤ, pos, _+ℤ_, _-ℤ_}
 use lib.Signed.{ltZ}
 use Rattle.counting.specs.Count.{any, count}
 use Rattle.counting.proofs.Boolean.{bool-iff}
@@ -16,8 +16,7 @@ use Rattle.counting.proofs.Summed.{count-back}
 use Rattle.coordinate.specs.Coordinate.{outOfRange, apart, same}
 use Rattle.coordinate.specs.Nearest.{nearest}
 use Rattle.coordinate.specs.declared.Pixel.{Pixel}
-use Rattle.coordinate.proofs.Difference.{Diff, above, below, diff-parts, diff-eq, diff-add, diff-minus, diff-plus, diff-less, diff-times, diff-apart, diff-lt, diff-nlt}
-use Rattle.coordinate.proofs.Nearest.{nearest-shift}
+use Rattle.coordinate.proofs.Difference.{Diff, above, below, diff-parts, diff-eq, diff-plus, diff-less, diff-apart, diff-lt, diff-nlt}
 use Rattle.raster.specs.Raster.{plus, inWindow}
 use Rattle.raster.specs.Fresh.{freshCount}
 use Rattle.raster.specs.Drawn.{marks}
@@ -30,6 +29,7 @@ use Rattle.line.specs.PixelFacts.{firstLong, secondLong, firstAcross, se
 use Rattle.line.specs.Drawing.{lineCount, lineFresh, lineMarks, lineRaster}
 use Rattle.line.specs.Exchanged.{exchanged, SamePixels, SameDrawing}
 use Rattle.line.specs.declared.ends.Ends.{Ends}
+use Rattle.line.proofs.Exact.{interpolated-nearest, exact-back}
 use Rattle.line.proofs.Laid.{laid, pixel-laid, by-axis}
 use Rattle.line.proofs.Halves.{offsetFor, offset-is}
 use Rattle.line.proofs.Pixels.{short-le, rounding}
@@ -75,22 +75,11 @@ module _ (a b : ℤ) where
       go false true p q = inl (omega (arith, far, diff-lt b a _ _ _ _ B A .0 q))
       go false false p q = inr (omega (arith, far, diff-nlt a b _ _ _ _ A B .0 p, diff-nlt b a _ _ _ _ B A .0 q))
 
-  -- the exact coordinate, times the number of steps
-  exact-back : (i j : ℕ) → (pos (i + j) *ℤ b +ℤ pos i *ℤ (a -ℤ b)) ≡ (pos (i + j) *ℤ a +ℤ pos j *ℤ (b -ℤ a))
-  exact-back i j =
-      let from-b = diff-times i (a -ℤ b) _ _ (diff-minus a b _ _ _ _ A B) in
-      let from-a = diff-times j (b -ℤ a) _ _ (diff-minus b a _ _ _ _ B A) in
-      diff-eq (pos (i + j) *ℤ b +ℤ pos i *ℤ (a -ℤ b)) (pos (i + j) *ℤ a +ℤ pos j *ℤ (b -ℤ a)) _ _ _ _
-      (diff-add (pos (i + j) *ℤ b) (pos i *ℤ (a -ℤ b)) _ _ _ _ (diff-times (i + j) b _ _ B) from-b)
-      (diff-add (pos (i + j) *ℤ a) (pos j *ℤ (b -ℤ a)) _ _ _ _ (diff-times (i + j) a _ _ A) from-a)
-      (omega arith)
-
   interpolated-some : (i j : ℕ) → 0 < i + j → interpolated b a (i + j) i ≡ interpolated a b (i + j) j
-  unfolding interpolated
   interpolated-some i j l =
-      sym (nearest-shift b (pos i *ℤ (a -ℤ b)) (i + j) l)
-      ∙ ap (λ (z : ℤ). nearest z (i + j)) (exact-back i j)
-      ∙ nearest-shift a (pos j *ℤ (b -ℤ a)) (i + j) l
+      interpolated-nearest (i + j) b a i l
+      ∙ ap (λ (z : ℤ). nearest z (i + j)) (exact-back a b i j)
+      ∙ sym (interpolated-nearest (i + j) a b j l)
 
   -- a line of one pixel
   interpolated-none : (n i : ℕ) → apart a b ≡ 0 → interpolated b a n i ≡ interpolated a b n i

@@ -1,3 +1,4 @@
+pub mod Exact
 pub mod Laid
 pub mod Halves
 pub mod PixelFacts

@@ -1,51 +1,19 @@
 -- At step i the exact short coordinates are i × d / L apart, so the whole numbers nearest to them are at most that apart, rounded up.
-use Prim.Native.Nat.{ℕ, _+_, _-_, _*_, _≤_}
-use mathlib.Core.Path.{_≡_, sym, ap, ap₂, _∙_}
+use Prim.Native.Nat.{ℕ, _-_, _*_, _≤_}
+use mathlib.Core.Path.{_≡_, sym, ap₂, _∙_}
 use native.Mathlib.Omega.{arith}
-use native.Mathlib.Decide.{decLe}
 use native.Mathlib.Nat.{mul-le-mul-right}
-use lib.IntN.{ℤ, pos, _+ℤ_, _-ℤ_, _*ℤ_}
+use lib.IntN.{ℤ}
 use Rattle.coordinate.specs.Coordinate.{apart}
 use Rattle.coordinate.specs.Nearest.{nearest}
-use Rattle.coordinate.proofs.Difference.{Diff, above, below, diff-parts, diff-add, diff-minus, diff-times, diff-apart}
 use Rattle.coordinate.proofs.Nearest.{nearest-facts, ceil-facts}
 use Rattle.line.specs.Line.{long, toward, pixel, longOf, acrossOf}
 use Rattle.line.specs.PixelFacts.{firstLong, firstAcross, secondAcross, exactTimesL}
 use Rattle.line.specs.Nudge.{Nudged, nudge, reach, MovesLittle}
 use Rattle.line.specs.declared.ends.Ends.{Ends}
+use Rattle.line.proofs.Exact.{exactTimes, exact-apart}
 use Rattle.line.proofs.Laid.{long-pixel, long-as, across-as, by-axis}
 use Rattle.line.proofs.PixelFacts.{short-coordinate}
-
--- ---- the exact coordinates
-
--- at step i of n, on the ways from a to b and from a to c
-exact-apart : (a b c : ℤ) (n i : ℕ)
-    → apart (pos n *ℤ a +ℤ pos i *ℤ (b -ℤ a)) (pos n *ℤ a +ℤ pos i *ℤ (c -ℤ a)) ≡ i * apart b c
-exact-apart a b c n i =
-    elim (decLe (above b + below c) (above c + below b)) [
-      | yes l ↦ omega (arith, far, grown (below c + above b) (above c + below b) (apart b c) (omega (arith, ends)))
-      | no l ↦ omega (arith, far, grown (above c + below b) (below c + above b) (apart b c) (omega (arith, ends)))
-    ]
-  where
-    A : Diff a (above a) (below a)
-    A = diff-parts a
-
-    ends : apart b c ≡ (above c + below b - (below c + above b)) + (below c + above b - (above c + below b))
-    ends = diff-apart b c _ _ _ _ (diff-parts b) (diff-parts c)
-
-    way : (z : ℤ) → Diff (pos n *ℤ a +ℤ pos i *ℤ (z -ℤ a)) (n * above a + i * (above z + below a)) (n * below a + i * (below z + above a))
-    way z =
-        diff-add (pos n *ℤ a) (pos i *ℤ (z -ℤ a)) _ _ _ _ (diff-times n a _ _ A)
-        (diff-times i (z -ℤ a) _ _ (diff-minus z a _ _ _ _ (diff-parts z) A))
-
-    far : apart (pos n *ℤ a +ℤ pos i *ℤ (b -ℤ a)) (pos n *ℤ a +ℤ pos i *ℤ (c -ℤ a))
-        ≡ (i * (above c + below b) - i * (below c + above b)) + (i * (below c + above b) - i * (above c + below b))
-    far = omega (arith, diff-apart (pos n *ℤ a +ℤ pos i *ℤ (b -ℤ a)) (pos n *ℤ a +ℤ pos i *ℤ (c -ℤ a)) _ _ _ _ (way b) (way c))
-
-    grown : (x y d : ℕ) → y ≡ x + d → i * y ≡ i * x + i * d
-    grown x y d q = ap (λ (z : ℕ). i * z) q ∙ omega arith
-
--- ---- the pixels
 
 module _ (e f : Ends) (n : Nudged e f) where
   first-long : firstLong f ≡ firstLong e
@@ -65,13 +33,13 @@ module _ (e f : Ends) (n : Nudged e f) where
       ∙ sym (long-pixel e i)
 
   abbrev exactNudged : ℕ → ℤ
-  exactNudged i = pos (long e) *ℤ firstAcross e +ℤ pos i *ℤ (secondAcross f -ℤ firstAcross e)
+  exactNudged i = exactTimes (long e) (firstAcross e) (secondAcross f) i
 
   nearest-nudged : (i : ℕ) → acrossOf e (pixel f i) ≡ nearest (exactNudged i) (long e)
   nearest-nudged i =
       sym (across-as e f (n .axis-is) (pixel f i))
       ∙ short-coordinate f i .nearest-is (omega (arith, same-long, n .long-some))
-      ∙ ap₂ (λ (z : ℤ) (m : ℕ). nearest (pos m *ℤ z +ℤ pos i *ℤ (secondAcross f -ℤ z)) m) first-across same-long
+      ∙ ap₂ (λ (z : ℤ) (m : ℕ). nearest (exactTimes m z (secondAcross f) i) m) first-across same-long
 
   -- what is rounded up covers the exact coordinates' distance, and no more than d is needed for that
   reach-covers : (i : ℕ) → i * nudge e f ≤ long e * reach e (nudge e f) i
@@ -85,7 +53,7 @@ module _ (e f : Ends) (n : Nudged e f) where
 
   short-moves : (i : ℕ) → apart (acrossOf e (pixel e i)) (acrossOf e (pixel f i)) ≤ reach e (nudge e f) i
   short-moves i =
-      let far = exact-apart (firstAcross e) (secondAcross e) (secondAcross f) (long e) i in
+      let far = exact-apart (long e) (firstAcross e) (secondAcross e) (secondAcross f) i in
       let moves = nearest-facts (exactTimesL e i) (long e) (n .long-some) .moves (exactNudged i) (reach e (nudge e f) i) in
       rw (short-coordinate e i .nearest-is (n .long-some), nearest-nudged i) (moves (omega (arith, far, reach-covers i)))
 
