@@ -197,4 +197,4 @@ module _ (e : Ends) where
     same-raster = ap (plus w s) same-predicate
 
     pub same-drawing : SameDrawing e w s
-    same-drawing = record { answers = rw (ends-out-back, same-marks); leaves = rw (ends-out-back, same-raster) }
+    same-drawing = record { answers = rw (ends-out-back, same-marks); leaves = rw (ends-out-back, same-raster); raster-is = same-raster }

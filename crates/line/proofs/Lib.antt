@@ -8,3 +8,4 @@ pub mod Conditions
 pub mod Nudge
 pub mod NearLine
 pub mod FirstEnd
+pub mod KnownNudges

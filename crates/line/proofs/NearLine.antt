@@ -1,6 +1,6 @@
 -- The pixels of a line and of the nudged one are within a nudge's distance of the line, so that a drawing of either is alike to
 -- its start but there, and both are alike to each other.
-use Prim.Native.Nat.{ℕ, zero, suc, _≤_}
+use Prim.Native.Nat.{ℕ, suc, _≤_}
 use mathlib.Core.Path.{_≡_, refl, sym, ap, ap₂, _∙_}
 use mathlib.Core.Bool.{true, false, _&&_}
 use mathlib.Core.List.{List}
@@ -13,20 +13,18 @@ use Rattle.counting.proofs.Any.{any-find, any-make}
 use Rattle.coordinate.specs.Coordinate.{apart, same}
 use Rattle.coordinate.specs.declared.Pixel.{Pixel}
 use Rattle.coordinate.proofs.Difference.{diff-parts, diff-apart, same-eq}
-use Rattle.refusal.specs.Refusal.{firstMet, unlessRefused}
+use Rattle.refusal.specs.Refusal.{firstMet}
 use Rattle.raster.specs.Alike.{AlikeBut}
 use Rattle.raster.specs.declared.window.Window.{Window}
 use Rattle.raster.proofs.Frames.{frame}
-use Rattle.raster.proofs.Alike.{alike-self, alike-both, plus-alike}
+use Rattle.raster.proofs.Alike.{alike-both, drawing-alike}
 use Rattle.line.specs.Line.{long, pixel, onLine, longOf, acrossOf}
 use Rattle.line.specs.Drawing.{lineConditions, lineRaster, drawAfter}
 use Rattle.line.specs.Nudge.{Nudged, nudge, reach, nearStep, nearLine, ChangesLittle}
+use Rattle.line.specs.Shorthand.{at}
 use Rattle.line.specs.declared.ends.Ends.{Ends}
 use Rattle.line.proofs.Conditions.{frame-in}
 use Rattle.line.proofs.Nudge.{moves-little}
-
-abbrev at : ℤ → ℤ → Pixel
-at column row = record { column = column; row = row }
 
 -- one of the line's pixels is that of a step
 on-step : (e : Ends) (column row : ℤ) → onLine e column row ≡ true → (i : ℕ) × (i ≤ long e) × (pixel e i ≡ at column row)
@@ -75,12 +73,7 @@ module _ (e f : Ends) (n : Nudged e f) where
     drawn : (g : Ends) → ((x y : ℤ) → nearLine e (nudge e f) x y ≡ false → onLine g x y ≡ false)
         → AlikeBut w (nearLine e (nudge e f)) s (drawAfter g w s)
     unfolding lineRaster
-    drawn g near-g = go (firstMet (lineConditions g w (length s))) refl
-      where
-        go : (k : ℕ) → firstMet (lineConditions g w (length s)) ≡ k
-            → AlikeBut w (nearLine e (nudge e f)) s (unlessRefused k (lineRaster g w s) s)
-        go zero h = plus-alike w _ s (frame w (length s) (frame-in g w (length s) h) .shape) (onLine g) near-g
-        go (suc k) h = alike-self w _ s
+    drawn g = drawing-alike w _ s (firstMet (lineConditions g w (length s))) (λ h. frame w (length s) (frame-in g w (length s) h) .shape) (onLine g)
 
     pub changes-little : ChangesLittle e f w s
     changes-little = alike-both w _ s (drawAfter e w s) (drawAfter f w s) (drawn e off-first) (drawn f off-second)

@@ -7,7 +7,7 @@ use lib.IntN.{ℤ}
 use Rattle.raster.specs.declared.window.Window.{Window}
 use Rattle.line.specs.Line.{long, short, axis, pixel, onLine, endsOut}
 use Rattle.line.specs.Distance.{distance}
-use Rattle.line.specs.Drawing.{lineCount, drawAnswer, drawAfter}
+use Rattle.line.specs.Drawing.{lineCount, lineRaster, drawAnswer, drawAfter}
 use Rattle.line.specs.declared.ends.Ends.{Ends}
 
 -- the second end first
@@ -30,3 +30,5 @@ pub record SamePixels (e : Ends) : Type 0 where
 pub record SameDrawing (e : Ends) (w : Window) (s : List ℕ) : Type 0 where
   pub answers : drawAnswer (exchanged e) w s ≡ drawAnswer e w s
   pub leaves : drawAfter (exchanged e) w s ≡ drawAfter e w s
+  -- the start plus the line's pixels, where nothing is refused
+  pub raster-is : lineRaster (exchanged e) w s ≡ lineRaster e w s

@@ -4,4 +4,6 @@ pub mod PixelFacts
 pub mod Exchanged
 pub mod Drawing
 pub mod Nudge
+pub mod Shorthand
+pub mod KnownNudges
 pub mod Trace

@@ -118,6 +118,7 @@ module _ (e : Ends) where
     reversed =
         let p = same-pixels e in
         record {
+          list-is = list-reversed;
           answers = rw (p .ends-out, p .short-is, p .axis-is);
           leaves = rw (p .ends-out, p .short-is, list-reversed);
         }

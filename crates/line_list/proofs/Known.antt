@@ -1,7 +1,7 @@
--- The lettered lines, the halves and the nudges hold by computation.
+-- The lettered lines and the halves hold by computation.
 use mathlib.Core.Path.{refl}
 use Rattle.counting.specs.Count.{any, count, sum, each}
-use Rattle.coordinate.specs.Nearest.{floorDiv, ceilDiv, nearest}
+use Rattle.coordinate.specs.Nearest.{floorDiv, nearest}
 use Rattle.interpolation.specs.Interpolation.{m}
 use Rattle.interpolation.specs.Runs.{runFirst, runPixels}
 use Rattle.raster.specs.Raster.{worth, bit, byte, over, bitHas, plus, marked, inWindow}
@@ -9,10 +9,8 @@ use Rattle.raster.specs.Fresh.{freshCount}
 use Rattle.line.specs.Line.{long, short, axis, interpolated, pixel, onLine, longOf, acrossOf}
 use Rattle.line.specs.Distance.{shortFalls, offset, distance, pixelAt}
 use Rattle.line.specs.Drawing.{lineCount, lineFresh, lineRaster}
-use Rattle.line.specs.Nudge.{reach}
 use Rattle.line_list.specs.Runs.{run, runs}
 use Rattle.line_list.specs.Known.{Lettered, LetteredNew, KnownHalves, codes}
-use Rattle.line_list.specs.KnownNudges.{KnownNudges, FalseAway}
 
 pub lettered : Lettered
 unfolding any count each m runFirst runPixels worth bit byte over bitHas plus inWindow floorDiv nearest long short axis interpolated pixel onLine shortFalls offset distance pixelAt longOf acrossOf run runs lineCount lineRaster codes
@@ -50,18 +48,3 @@ known-halves =
       falling = refl;
       rising = refl;
     }
-
-pub known-nudges : KnownNudges
-unfolding each floorDiv ceilDiv nearest long axis interpolated pixel acrossOf reach
-known-nudges =
-    record {
-      halves = record { one-is = refl; other-is = refl; most-is = refl };
-      rounded-up = record { one-is = refl; other-is = refl; most-is = refl };
-      by-one = record { one-is = refl; other-is = refl; most-is = refl };
-      along-y = record { one-is = refl; other-is = refl; most-is = refl };
-      to-the-left = record { one-is = refl; other-is = refl; most-is = refl };
-    }
-
-pub false-away : FalseAway
-unfolding m ceilDiv long short axis pixelAt reach
-false-away = record { rising = refl; falling = refl; most = refl; back = refl }

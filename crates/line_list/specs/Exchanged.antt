@@ -23,6 +23,7 @@ pub record RunsReversed (e : Ends) : Type 0 where
 -- the lister's answer is the same for every list; unless it refuses, the list then holds the runs in the reverse order and the
 -- rest as it was
 pub record ListReversed (e : Ends) (list : List ℤ) : Type 0 where
+  pub list-is : lineList (exchanged e) list ≡ runList (reverse (runs e)) ++ drop (3 * (short e + 1)) list
   pub answers : listAnswer (exchanged e) list ≡ listAnswer e list
   pub leaves : listAfter (exchanged e) list
       ≡ unlessRefused (firstMet (listConditions e (length list))) (runList (reverse (runs e)) ++ drop (3 * (short e + 1)) list) list

@@ -3,31 +3,20 @@
 use Prim.Native.Nat.{ℕ, _+_, _-_}
 use mathlib.Core.Path.{_≡_}
 use mathlib.Core.List.{List, [], _∷_}
-use lib.IntN.{ℤ, pos, negsuc}
+use lib.IntN.{pos}
 use Rattle.counting.specs.Count.{each}
-use Rattle.coordinate.specs.declared.Pixel.{Pixel}
 use Rattle.coordinate.specs.declared.Axis.the-variants.{X, Y}
 use Rattle.raster.specs.declared.window.Window.{Window}
 use Rattle.line.specs.Line.{long, axis, pixel}
 use Rattle.line.specs.Distance.{distance}
 use Rattle.line.specs.Drawing.{lineCount, lineFresh, lineRaster}
+use Rattle.line.specs.Shorthand.{from, at, minus}
 use Rattle.line.specs.declared.ends.Ends.{Ends}
 use Rattle.line_list.specs.Runs.{lies, runs}
-
--- from column a and row b to column c and row d
-abbrev pub from : ℤ → ℤ → ℤ → ℤ → Ends
-from a b c d = record { x0 = a; y0 = b; x1 = c; y1 = d }
-
-abbrev pub at : ℤ → ℤ → Pixel
-at column row = record { column = column; row = row }
 
 -- a window at (0,0)
 abbrev pub sized : ℕ → ℕ → Window
 sized width height = record { left = pos 0; top = pos 0; width = width; height = height }
-
--- −n
-abbrev pub minus : ℕ → ℤ
-minus n = negsuc (n - 1)
 
 -- a code for each step, 1 for a diagonal one
 unfoldable pub codes : Ends → List ℕ
