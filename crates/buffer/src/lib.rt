@@ -1,4 +1,6 @@
 // Writing bytes into a lent buffer, from a place on. Each writer answers the place after its text.
+#![tactic(auto)]
+
 ghost use Rattle.std.specs.Prelude.{[], ◌∷◌, ◌+◌, ◌≤◌, length};
 ghost use Rattle.buffer.specs.Written.{Wrote};
 

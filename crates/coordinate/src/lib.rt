@@ -1,9 +1,11 @@
 // Coordinates of the frame: their limits, the range test, and their unsigned form, in which code computes with them.
+#![tactic(auto)]
+
 ghost use Rattle.std.specs.Prelude.{◌≡◌, false, ◌-◌, ◌<◌};
 ghost use Rattle.coordinate.specs.Coordinate.{out_of_range, biased, unbiased};
 
 // A column or a row of the frame.
-#[derive(Drop)]
+#[derive(Clone, Copy)]
 pub struct Coordinate {
     pub value: i32,
 }
@@ -47,14 +49,14 @@ pub fn less(a: u32, b: u32) -> u32
 }
 
 // A pixel of the frame by its column and row. Columns grow rightwards, rows downwards.
-#[derive(Drop)]
+#[derive(Clone, Copy)]
 pub struct Pixel {
     pub column: i32,
     pub row: i32,
 }
 
 // A direction of the frame: along its columns' numbers, x, or along its rows', y.
-#[derive(Drop)]
+#[derive(Clone, Copy)]
 pub enum Axis {
     X,
     Y,

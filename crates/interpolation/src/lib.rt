@@ -1,11 +1,13 @@
 // Integral linear interpolation: the short distance at any step of a line, and the first step of any run, each by one
 // division and in 32 bits.
+#![tactic(auto)]
+
 ghost use Rattle.std.specs.Prelude.{◌≡◌, ◌+◌, ◌≤◌};
 ghost use Rattle.interpolation.specs.Interpolation.{m, rest, Rounding};
 ghost use Rattle.interpolation.specs.Runs.{run_first};
 
 // The short distance at a step, and the step's decision number: what the division leaves.
-#[derive(Drop)]
+#[derive(Clone, Copy)]
 pub struct ShortStep {
     pub distance: u32,
     pub rest: u32,

@@ -15,7 +15,7 @@ use std::num::wrapping_add_u64;
 pub const ROOM: usize = 1025;
 
 // The drawers that are compared with the second one.
-#[derive(Drop)]
+#[derive(Clone, Copy)]
 enum Drawer {
     Single,
     Double,

@@ -2,6 +2,8 @@
 // pairs of lines, a nudge of the second end and an exchange of the ends; then every line of a small square. Prints a line for
 // each, with `differ` at its end where a drawer's raster or count is not the second drawer's, where not all refuse alike, or
 // where a pair is not as document 02 says.
+#![tactic(auto)]
+
 mod distance;
 mod drawers;
 mod exchanged;

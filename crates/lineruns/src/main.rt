@@ -1,4 +1,6 @@
 // `lineruns`: reads the four numbers of one line from standard input, and prints its runs or the refusal.
+#![tactic(auto)]
+
 use libc::{STDIN_FILENO, STDOUT_FILENO};
 use lineruns_text::answer::answer;
 

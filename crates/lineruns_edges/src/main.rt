@@ -1,4 +1,6 @@
 // Feeds `lineruns`' library function the refusals and the edges of what it reads, and prints the first line of each answer.
+#![tactic(auto)]
+
 ghost use Rattle.std.specs.Prelude.{◌≤◌, length};
 
 use libc::STDOUT_FILENO;

@@ -1,4 +1,6 @@
 // What `lineruns` reads and prints, as functions of bytes.
+#![tactic(auto)]
+
 pub mod answer;
 pub mod print;
 pub mod read;

@@ -11,28 +11,28 @@ const LONGEST_INPUT: usize = 64;
 const MOST_DIGITS: usize = 6;
 
 // What 1 to 6 digits make.
-#[derive(Drop)]
+#[derive(Clone, Copy)]
 enum Digits {
     Value(u32),
     Bad,
 }
 
 // What a word is.
-#[derive(Drop)]
+#[derive(Clone, Copy)]
 enum Word {
     Number(i32),
     Bad,
 }
 
 // A number that a blank follows, and the place after that blank.
-#[derive(Drop)]
+#[derive(Clone, Copy)]
 enum Next {
     Number(i32, usize),
     Bad,
 }
 
 // What the input is: one line, or refusal 9.
-#[derive(Drop)]
+#[derive(Clone, Copy)]
 pub enum ReadLine {
     Line(Ends),
     Bad,

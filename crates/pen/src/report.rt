@@ -3,14 +3,14 @@ use coordinate::Pixel;
 use refusal::Refusal;
 
 // Where the pen is, in pixels with a fraction.
-#[derive(Drop)]
+#[derive(Clone, Copy)]
 pub struct Point {
     pub column: f32,
     pub row: f32,
 }
 
 // One report of the tablet.
-#[derive(Drop)]
+#[derive(Clone, Copy)]
 pub enum Report {
     Touching(Point),
     Hovering(Point),
@@ -18,7 +18,7 @@ pub enum Report {
 }
 
 // The pixel that the pen touches, the remark that it is not touching, or refusal 13 or 14.
-#[derive(Drop)]
+#[derive(Clone, Copy)]
 pub enum Touched {
     At(Pixel),
     NotTouching,

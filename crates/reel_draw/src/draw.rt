@@ -14,7 +14,7 @@ use reel::find::{FoundFrame, FramePart, find_frame};
 use refusal::{Check, Refusal};
 
 // The counts of a frame's marks, none for a frame that the file does not have, or the refusal.
-#[derive(Drop)]
+#[derive(Clone, Copy)]
 pub enum DrawnFrame {
     Marked(Marks),
     Nothing,

@@ -1,10 +1,12 @@
 // Why an operation turns its arguments away: document 01's list of refusals, which document 02 goes on with, and what a test of
 // them answers.
+#![tactic(auto)]
+
 ghost use Rattle.std.specs.Prelude.{◌≡◌};
 ghost use Rattle.refusal.specs.Refusal.{number, place};
 
 // The refusals, in the order of their numbers.
-#[derive(Drop)]
+#[derive(Clone, Copy)]
 pub enum Refusal {
     // 1: a coordinate of an end is out of range.
     Ends,
@@ -83,7 +85,7 @@ impl Refusal {
 }
 
 // What a test of an operation's arguments answers: none of its conditions is met, or the first that is.
-#[derive(Drop)]
+#[derive(Clone, Copy)]
 pub enum Check {
     Passed,
     Refused(Refusal),

@@ -20,7 +20,7 @@ use raster::window::Window;
 use refusal::{Check, Refusal};
 
 // The three numbers of a stored run.
-#[derive(Drop)]
+#[derive(Clone, Copy)]
 struct Stored {
     across: i32,
     lowest: i32,
@@ -28,7 +28,7 @@ struct Stored {
 }
 
 // A part of a side of the window: its first pixel, counted from 0 at the side's first, and its number of pixels.
-#[derive(Drop)]
+#[derive(Clone, Copy)]
 struct Part {
     from: u32,
     pixels: u32,
@@ -36,7 +36,7 @@ struct Part {
 
 // What is left of a run in the window: its short coordinate and its lowest long one, counted from 0 at left and top, and its
 // number of pixels.
-#[derive(Drop)]
+#[derive(Clone, Copy)]
 struct Piece {
     across: u32,
     lowest: u32,

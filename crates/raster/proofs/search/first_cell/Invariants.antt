@@ -1,0 +1,47 @@
+-- Nothing is found while what is passed is unmarked: the rows above, the bytes before and the bits before.
+use Prim.Native.Nat.{ℕ, ◌+◌, ◌-◌, ◌*◌, ◌≤◌}
+use mathlib.Core.List.{List}
+use mathlib.Core.Path.{◌≡◌, refl, ◌∙◌}
+use lib.ListN.{length}
+use mathlib.Core.Logic.{⊎_elim}
+use native.Mathlib.Omega.{arith}
+use Rattle.raster.specs.declared.search.Cell.{Cell}
+use Rattle.raster.specs.declared.search.Cell.TheVariants.{Nothing}
+use Rattle.raster.proofs.Frames.{size_in, frame}
+use Rattle.raster.proofs.Passing.{row_in, Passed, RowsPassed, rows_on, bytes_on, bit_on, pixel_is, bit_set, bit_clear}
+use Rattle.raster.proofs.Searching.{none_marked, first_is}
+use Rattle.raster.proofs.search.first_cell.Given as goal
+
+pub record RowsDone (raster : List ℕ) (bytes width height : ℕ) (cell : Cell) (row start : ℕ) : Type 0 where
+  pub in_height : row ≤ height
+  pub start_is : start ≡ row * bytes
+  pub nothing : cell ≡ Nothing
+  pub passed : RowsPassed raster bytes width row
+
+pub record BytesDone (raster : List ℕ) (bytes width row : ℕ) (cell : Cell) (byte : ℕ) : Type 0 where
+  pub in_row : byte ≤ bytes
+  pub nothing : cell ≡ Nothing
+  pub passed : Passed raster bytes width row (byte * 8)
+
+pub record BitsDone (raster : List ℕ) (bytes width row byte : ℕ) (cell : Cell) (bit : ℕ) : Type 0 where
+  pub in_byte : bit ≤ 8
+  pub nothing : cell ≡ Nothing
+  pub passed : Passed raster bytes width row (byte * 8 + bit)
+
+abbrev pub invariant-loop-bit : goal.invariant-loop-bit
+invariant-loop-bit l = BitsDone l.raster l.bytes l.width l.row l.byte l.cell l.bit
+
+abbrev pub decreases-loop-bit : goal.decreases-loop-bit
+decreases-loop-bit l = 8 - l.bit
+
+abbrev pub invariant-loop-byte : goal.invariant-loop-byte
+invariant-loop-byte l = BytesDone l.raster l.bytes l.width l.row l.cell l.byte
+
+abbrev pub decreases-loop-byte : goal.decreases-loop-byte
+decreases-loop-byte l = l.bytes - l.byte
+
+abbrev pub invariant-rows : goal.invariant-rows
+invariant-rows l = RowsDone l.raster l.bytes l.width l.height l.cell l.row l.start
+
+abbrev pub decreases-rows : goal.decreases-rows
+decreases-rows l = l.height - l.row

@@ -1,0 +1,12 @@
+-- The code's two tests are the definition's.
+use borrow.Author.Tests.{lt-ltb, le-ltb}
+use Rattle.raster.specs.Window.{side_out}
+use Rattle.raster.proofs.window.side_out.Goals as goal
+
+pub returns-then-n-lt1 : goal.returns-then-n-lt1
+unfolding side_out
+returns-then-n-lt1 c = rw (lt-ltb c.args.n 1 c.if-n-lt1.true)
+
+pub returns-else-n-lt1 : goal.returns-else-n-lt1
+unfolding side_out
+returns-else-n-lt1 c = rw (le-ltb c.args.n 1 c.if-n-lt1.false)

@@ -1,0 +1,21 @@
+-- No coordinate passed is out of range.
+use Prim.Native.Nat.{◌-◌, ◌≤◌}
+use mathlib.Core.Path.{◌≡◌, sym, ap, ◌∙◌}
+use mathlib.Core.Bool.{false}
+use native.Mathlib.Omega.{arith}
+use lib.IntN.{pos}
+use lib.ListN.{length, get_or}
+use mir.Syntax.{w32}
+use mir.ValLaws.{to_z-of_z}
+use Rattle.counting.specs.Count.{any}
+use Rattle.counting.proofs.Any.{any-zero, any_more, any_make}
+use Rattle.coordinate.specs.Coordinate.{out_of_range}
+use Rattle.reel.specs.Reel.{coordinates_out, coordinates}
+use Rattle.reel.proofs.Records.{coordinates-length}
+use Rattle.reel.proofs.coordinates.coordinates_out.Given as goal
+
+abbrev pub invariant-loop-k : goal.invariant-loop-k
+invariant-loop-k l = (l.k ≤ l.count) × (any l.k (λ i. out_of_range (get_or (coordinates l.bytes) i (pos 0))) ≡ false)
+
+abbrev pub decreases-loop-k : goal.decreases-loop-k
+decreases-loop-k l = l.count - l.k
