@@ -38,7 +38,7 @@ fn check_band(ends: Ends, window: Window, first: u32, rows: u32, length: usize) 
 // Draws in the band's rows, a part of the raster, with the window of these rows.
 fn draw_rows(ends: Ends, window: Window, first: u32, rows: u32, raster: &mut [u8]) -> Drawn
     requires { first_met (band_conditions ends window (length raster.old) first rows) ≡ 0 }
-    ensures result_value { drawn result ≡ given (band_marks ends window raster.old first rows) }
+    ensures answered { drawn result ≡ given (band_marks ends window raster.old first rows) }
     ensures raster_after { raster.new ≡ band_raster ends window first rows raster.old }
 {
     let from = window.row_start(first);
@@ -55,7 +55,7 @@ fn draw_rows(ends: Ends, window: Window, first: u32, rows: u32, raster: &mut [u8
 // Marks the line's pixels in the band of `rows` rows from row `first` on, counted from 0 at the window's top, and answers how
 // many they are and how many of them are new. Refused (1, 2, 3, 4, 6) it marks none.
 pub fn draw_band(ends: Ends, window: Window, first: u32, rows: u32, raster: &mut [u8]) -> Drawn
-    ensures result_value { drawn result ≡ band_answer ends window raster.old first rows }
+    ensures answered { drawn result ≡ band_answer ends window raster.old first rows }
     ensures raster_after { raster.new ≡ band_after ends window raster.old first rows }
 {
     let check = check_band(ends, window, first, rows, raster.len());

@@ -41,7 +41,7 @@ fn walk_by(
 ) -> u32
     requires { Traced line × (first_met (frame_conditions window (length raster.old)) ≡ 0) × Shown line.ends window from end }
     ensures raster_after { raster.new ≡ plus window raster.old (step_pixels line.ends from (end - from)) }
-    ensures raster_after_2 { bit_count raster.new ≡ bit_count raster.old + result }
+    ensures bits_grow { bit_count raster.new ≡ bit_count raster.old + result }
 {
     if in_pairs {
         return walk_double(line, window, from, end, raster);
@@ -51,7 +51,7 @@ fn walk_by(
 
 // Both drawers: the check, the visible steps, the walk through them.
 fn draw(in_pairs: bool, ends: Ends, window: Window, raster: &mut [u8]) -> Drawn
-    ensures result_value { drawn result ≡ draw_answer ends window raster.old }
+    ensures answered { drawn result ≡ draw_answer ends window raster.old }
     ensures raster_after { raster.new ≡ draw_after ends window raster.old }
 {
     let check = check_line(ends, window, raster.len());
@@ -73,7 +73,7 @@ fn draw(in_pairs: bool, ends: Ends, window: Window, raster: &mut [u8]) -> Drawn
 // Marks the line's pixels in the window, step by step, and answers how many they are and how many of them are new.
 // Refused (1, 2, 3, 4) it marks none.
 pub fn draw_single(ends: Ends, window: Window, raster: &mut [u8]) -> Drawn
-    ensures result_value { drawn result ≡ draw_answer ends window raster.old }
+    ensures answered { drawn result ≡ draw_answer ends window raster.old }
     ensures raster_after { raster.new ≡ draw_after ends window raster.old }
 {
     draw(false, ends, window, raster)
@@ -82,7 +82,7 @@ pub fn draw_single(ends: Ends, window: Window, raster: &mut [u8]) -> Drawn
 // Marks the line's pixels in the window, two steps at a time, and answers how many they are and how many of them are
 // new. Refused (1, 2, 3, 4) it marks none.
 pub fn draw_double(ends: Ends, window: Window, raster: &mut [u8]) -> Drawn
-    ensures result_value { drawn result ≡ draw_answer ends window raster.old }
+    ensures answered { drawn result ≡ draw_answer ends window raster.old }
     ensures raster_after { raster.new ≡ draw_after ends window raster.old }
 {
     draw(true, ends, window, raster)

@@ -80,7 +80,7 @@ pub fn draw_frame(
     rows: u32,
     raster: &mut [u8],
 ) -> DrawnFrame
-    ensures result_value { drawn_frame result ≡ frame_answer file.now frame window raster.old first rows }
+    ensures answered { drawn_frame result ≡ frame_answer file.now frame window raster.old first rows }
     ensures raster_after { raster.new ≡ frame_after file.now frame window raster.old first rows }
 {
     let check = check_rows(window, first, rows, raster.len());

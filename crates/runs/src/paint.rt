@@ -134,7 +134,7 @@ fn turned(axis: Axis, window: Window) -> Window
 fn fill_column(window: Window, column: u32, row: u32, n: u32, raster: &mut [u8]) -> u32
     requires { (first_met (frame_conditions window (length raster.old)) ≡ 0) × (column < window.width) × (row + n ≤ window.height) }
     ensures raster_after { raster.new ≡ plus window raster.old (in_run Y (down_from window column row n)) }
-    ensures raster_after_2 { bit_count raster.new ≡ bit_count raster.old + result }
+    ensures bits_grow { bit_count raster.new ≡ bit_count raster.old + result }
 {
     let bit = MASK[column as usize % 8];
     let stride = window.row_bytes();
@@ -172,7 +172,7 @@ fn paint_run(axis: Axis, run: Stored, window: Window, raster: &mut [u8]) -> Mark
     requires { (bad_run run ≡ false) × (first_met (frame_conditions window (length raster.old)) ≡ 0) }
     ensures count_value { result.count ≡ run_count axis (run_of run) window }
     ensures raster_after { raster.new ≡ plus window raster.old (in_run axis (run_of run)) }
-    ensures raster_after_2 { bit_count raster.new ≡ bit_count raster.old + result.fresh }
+    ensures bits_grow { bit_count raster.new ≡ bit_count raster.old + result.fresh }
 {
     let piece = cut_run(axis, run, window);
     let n = piece.pixels;
@@ -216,7 +216,7 @@ fn paint_all(axis: Axis, count: u32, list: &[i32], window: Window, raster: &mut 
 // numbers after the counted runs are not looked at. Refused (2, 3, 4, 7, and 8 with the place of the first bad run) it marks
 // nothing.
 pub fn paint_runs(axis: Axis, count: u32, list: &[i32], window: Window, raster: &mut [u8]) -> Drawn
-    ensures result_value { drawn result ≡ paint_answer axis count list.now window raster.old }
+    ensures answered { drawn result ≡ paint_answer axis count list.now window raster.old }
     ensures raster_after { raster.new ≡ paint_after axis count list.now window raster.old }
 {
     let frame = window.check_frame(raster.len());

@@ -26,6 +26,6 @@ returns c = let f = frame c.args.window _ c.requires.0 in
     ∙ ap (λ (p : ℕ). with_bits (λ q. eqb q p) c.args.raster.now) c.bit_of-p.ensures
     ∙ point-plus c.args.window c.args.column c.args.row c.args.raster.now f.shape c.requires.1 in record {
       raster_after = marked;
-      value = fresh_is c.args.window c.args.raster.now f.shape _ _ c.put_bit.result marked c.put_bit.ensures.raster_after_2
+      value = fresh_is c.args.window c.args.raster.now f.shape _ _ c.put_bit.result marked c.put_bit.ensures.bits_grow
           ∙ fresh_point c.args.window c.args.raster.now f.shape c.args.column c.args.row c.requires.1 c.requires.2;
     }

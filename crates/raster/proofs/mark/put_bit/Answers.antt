@@ -19,5 +19,5 @@ returns c = let a = c.args in
     let bytes : Bytes s = λ i _. (c.slice_known-1.given i).fits in record {
       raster_after = ap (λ (m : List ℕ). set s (a.p / 8) (bit_or (get_or s (a.p / 8) 0) (get_or m (a.p % 8) 0))) c.requires.0
           ∙ bits_one s a.p c.requires.1 bytes;
-      raster_after_2 = bits_put s (a.p / 8) c.requires.1 bytes a.mask.now c.requires.0 (a.p % 8) (omega arith);
+      bits_grow = bits_put s (a.p / 8) c.requires.1 bytes a.mask.now c.requires.0 (a.p % 8) (omega arith);
     }

@@ -24,7 +24,7 @@ pub returns-then-first-last : goal.returns-then-first-last
 returns-then-first-last c = record {
   raster_after = filled_short c.args.raster.now _ c.args.a (c.args.z - 1) c.args.z (omega arith) (omega arith)
       c.if-first-last.true c.or_byte.ensures.raster_after;
-  raster_after_2 = c.or_byte.ensures.raster_after_2;
+  bits_grow = c.or_byte.ensures.bits_grow;
 }
 
 pub or_byte-before-requires : goal.or_byte-before-requires
@@ -112,5 +112,5 @@ returns c = let done : c.loop-i.i ≡ (c.args.z - 1) / 8 = omega (arith, c.loop-
       (omega (arith, c.loop-i.invariant.0)) c.or_byte-before.ensures.raster_after
       (c.loop-i.invariant.2 ∙ ap (λ (i : ℕ). with_bits (between (8 * (c.args.a / 8 + 1)) (8 * i)) c.or_byte-before.new.raster) done)
       c.or_byte-after.ensures.raster_after;
-  raster_after_2 = omega (arith, c.or_byte-before.ensures.raster_after_2, c.loop-i.invariant.3, c.or_byte-after.ensures.raster_after_2);
+  bits_grow = omega (arith, c.or_byte-before.ensures.bits_grow, c.loop-i.invariant.3, c.or_byte-after.ensures.bits_grow);
 }

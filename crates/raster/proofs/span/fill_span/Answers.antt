@@ -35,5 +35,5 @@ returns c = let f = frame c.args.window _ c.requires.0 in record {
   raster_after = c.fill_bits.ensures.raster_after
       ∙ ap (λ (p : ℕ). with_bits (between p (p + c.args.n)) c.args.raster.now) c.bit_of-from.ensures
       ∙ span-plus c.args.window c.args.column c.args.row c.args.n c.requires.3 c.args.raster.now f.shape.wide;
-  raster_after_2 = c.fill_bits.ensures.raster_after_2;
+  bits_grow = c.fill_bits.ensures.bits_grow;
 }

@@ -9,5 +9,5 @@ returns c = let a = c.args in
     let bytes : Bytes a.raster.now = λ i _. (c.slice_known-1.given i).fits in record {
       upper_bound = changed_most a.raster.now a.i c.requires bytes a.bits c.ranges.bits.fits;
       raster_after = bits_or a.raster.now a.i a.bits c.requires c.ranges.bits.fits bytes;
-      raster_after_2 = bits_or_grow a.raster.now a.i c.requires bytes a.bits c.ranges.bits.fits;
+      bits_grow = bits_or_grow a.raster.now a.i c.requires bytes a.bits c.ranges.bits.fits;
     }

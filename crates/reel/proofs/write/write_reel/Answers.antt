@@ -16,7 +16,7 @@ module _ (c : Start) where
 
 pub returns-in-Refused : goal.returns-in-Refused
 returns-in-Refused c = let told = refused_by c.check_lists-check.result (number (goal.at.returns-in-Refused c).Start) c.check_lists-check.ensures c.in-Refused.refusal c.in-Refused.is in record {
-  result_value = handed_on c.in-Refused.refusal (number (goal.at.returns-in-Refused c).Start) tt told;
+  answered = handed_on c.in-Refused.refusal (number (goal.at.returns-in-Refused c).Start) tt told;
   output_after = kept c.in-Refused.refusal (number (goal.at.returns-in-Refused c).Start) (encoded c.args.list.now c.args.table.now) c.args.output.now told;
 }
 
@@ -31,6 +31,6 @@ write_all-requires c = passed (goal.at.write_all-requires c).In_default
 
 pub returns : goal.returns
 returns c = record {
-  result_value = ap (λ (n : ℕ). answer n tt) (sym (passed (goal.at.returns c).In_default));
+  answered = ap (λ (n : ℕ). answer n tt) (sym (passed (goal.at.returns c).In_default));
   output_after = c.write_all.ensures ∙ ap (λ (n : ℕ). unless_refused n (encoded c.args.list.now c.args.table.now) c.args.output.now) (sym (passed (goal.at.returns c).In_default));
 }
