@@ -1,0 +1,16 @@
+-- Before run k the list has the runs before it, and the numbers are run k's first step and the start of the run after it.
+use Prim.Native.Nat.{◌+◌, ◌-◌, ◌≤◌}
+use mathlib.Core.Path.{◌≡◌, sym}
+use native.Mathlib.Omega.{arith}
+use native.Mathlib.Nat.{div-le_self}
+use lib.ListN.{length}
+use Rattle.interpolation.proofs.RunLaws.{first-zero}
+use Rattle.line.proofs.Pixels.{traced_numbers}
+use Rattle.line_list.proofs.Listing.{Begun, begun_none, begun_on, begun_length, Standing, standing_first, standing_on, standing_spans, standing_most, part_lt, rest_lt, before_whole}
+use Rattle.line_list.proofs.list.list_but_last.Given as goal
+
+abbrev pub invariant-loop-k : goal.invariant-loop-k
+invariant-loop-k l = (l.k ≤ l.line.short) × Begun l.line.ends l.initial.list l.list l.k l.at × Standing l.line l.k l.step l.next
+
+abbrev pub decreases-loop-k : goal.decreases-loop-k
+decreases-loop-k l = l.line.short - l.k
