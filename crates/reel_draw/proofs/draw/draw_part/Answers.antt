@@ -1,0 +1,19 @@
+-- The part that is lent is the definition's, so the records in it are.
+use mathlib.Core.Path.{ap, ◌∙◌}
+use native.Mathlib.Omega.{arith}
+use Rattle.reel.specs.Reel.{coordinates_out}
+use Rattle.reel_draw.proofs.PartLaws.{lent_records, lent_most, lent_drawn}
+use Rattle.reel_draw.proofs.draw.draw_part.Goals as goal
+
+pub draw_rows-requires : goal.draw_rows-requires
+draw_rows-requires c = let a = c.args in (
+  ap coordinates_out (lent_records a.file.now a.part) ∙ c.requires.1,
+  omega (arith, lent_most a.file.now a.part),
+  c.requires.3,
+)
+
+pub returns : goal.returns
+returns c = let a = c.args in record {
+  value = (lent_drawn a.file.now a.part a.window a.first a.rows a.raster.now c.draw_rows.result _ c.draw_rows.ensures.value c.draw_rows.ensures.raster_after).0;
+  raster_after = (lent_drawn a.file.now a.part a.window a.first a.rows a.raster.now c.draw_rows.result _ c.draw_rows.ensures.value c.draw_rows.ensures.raster_after).1;
+}
