@@ -1,5 +1,5 @@
 -- A finite float less itself is 0. An infinity or a NaN less itself is a NaN, which equals nothing.
-use Prim.Native.Nat.{ℕ, ◌-◌, ◌*◌, ◌<◌}
+use Prim.Native.Nat.{ℕ, ◌*◌, ◌<◌}
 use mathlib.Core.Path.{◌≡◌, refl, sym, ap, ◌∙◌}
 use mathlib.Core.Bool.{Bool, true, false, ◌||◌, or-true, beq}
 use native.Mathlib.Nat.{le_refl, sub_self, zero-mul, mul-pos, eq_of_mul-eq-mul_right}

@@ -1,6 +1,6 @@
 -- The whole part of x and its fraction, which has the sign of x, give the nearest whole number: the fraction is held against −1/2
 -- and 1/2, over natural numbers.
-use Prim.Native.Nat.{ℕ, ◌+◌, ◌*◌, ◌/◌, ◌%◌, ◌^◌, ◌≤◌, ◌<◌}
+use Prim.Native.Nat.{ℕ, ◌+◌, ◌*◌, ◌/◌, ◌%◌, ◌^◌, ◌<◌}
 use mathlib.Core.Path.{◌≡◌, sym, ap, ◌∙◌, subst}
 use mathlib.Core.Bool.{Bool, true, false, true≢false}
 use native.Mathlib.Nat.{mul_comm, mul-add, div-add-mod', mod-lt, div-lt_iff_lt-mul, lt_of_lt_of_le}

@@ -1,9 +1,7 @@
 -- After i turns the first i bytes of the text are in place.
-use Prim.Native.Nat.{◌-◌, ◌≤◌}
-use mathlib.Core.Path.{◌≡◌}
 use native.Mathlib.Omega.{arith}
-use lib.ListN.{length, length-set}
-use lib.Seq.{paste, paste-zero}
+use lib.ListN.{length-set}
+use lib.Seq.{paste-zero}
 use Rattle.buffer.proofs.Placing.{paste_next, pasted}
 use Rattle.buffer.proofs.write_bytes.Goals as goal
 
@@ -27,10 +25,10 @@ loop-i-smaller c = omega arith
 
 pub loop-i-preserved : goal.loop-i-preserved
 loop-i-preserved c = let a = c.args in (
-      omega arith,
-      simp length-set c.loop-i.invariant.1,
-      paste_next a.output.now a.at a.text.now c.loop-i.i (omega arith) (omega arith) c.loop-i.invariant.2,
-    )
+  omega arith,
+  simp length-set c.loop-i.invariant.1,
+  paste_next a.output.now a.at a.text.now c.loop-i.i (omega arith) (omega arith) c.loop-i.invariant.2,
+)
 
 pub overflow_add-result : goal.overflow_add-result
 overflow_add-result c = omega arith

@@ -1,10 +1,8 @@
 -- After i turns the first i bytes of the text are in place.
 use Prim.Native.Nat.{◌-◌, ◌≤◌}
 use mathlib.Core.Path.{◌≡◌}
-use native.Mathlib.Omega.{arith}
-use lib.ListN.{length, length-set}
-use lib.Seq.{paste, paste-zero}
-use Rattle.buffer.proofs.Placing.{paste_next, pasted}
+use lib.ListN.{length}
+use lib.Seq.{paste}
 use Rattle.buffer.proofs.write_bytes.Given as goal
 
 abbrev pub invariant-loop-i : goal.invariant-loop-i

@@ -1,11 +1,6 @@
 -- The raster is the one after the calls made so far; the refused ones among them and their new pixels are added up.
-use Prim.Native.Nat.{◌+◌, ◌-◌, ◌≤◌}
-use mathlib.Core.Path.{ap, ◌∙◌}
-use native.Mathlib.Omega.{arith}
-use lib.ListN.{length}
-use Rattle.counting.specs.Count.{each}
-use Rattle.band.specs.Calls.{band_at, call_of}
-use Rattle.band.proofs.CallLaws.{bands_length, fresh_most, Called, called_none, called_on, called_all}
+use Prim.Native.Nat.{◌-◌, ◌≤◌}
+use Rattle.band.proofs.CallLaws.{Called}
 use Rattle.band.proofs.calls.draw_bands.Given as goal
 
 abbrev pub invariant-loop-k : goal.invariant-loop-k

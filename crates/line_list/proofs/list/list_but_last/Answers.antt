@@ -1,5 +1,5 @@
 -- Before run k the list has the runs before it, and the numbers are run k's first step and the start of the run after it.
-use Prim.Native.Nat.{◌+◌, ◌-◌, ◌≤◌}
+use Prim.Native.Nat.{◌+◌, ◌≤◌}
 use mathlib.Core.Path.{◌≡◌, sym}
 use native.Mathlib.Omega.{arith}
 use native.Mathlib.Nat.{div-le_self}

@@ -1,12 +1,6 @@
 -- Before run k the list has the runs before it, and the numbers are run k's first step and the start of the run after it.
-use Prim.Native.Nat.{◌+◌, ◌-◌, ◌≤◌}
-use mathlib.Core.Path.{◌≡◌, sym}
-use native.Mathlib.Omega.{arith}
-use native.Mathlib.Nat.{div-le_self}
-use lib.ListN.{length}
-use Rattle.interpolation.proofs.RunLaws.{first-zero}
-use Rattle.line.proofs.Pixels.{traced_numbers}
-use Rattle.line_list.proofs.Listing.{Begun, begun_none, begun_on, begun_length, Standing, standing_first, standing_on, standing_spans, standing_most, part_lt, rest_lt, before_whole}
+use Prim.Native.Nat.{◌-◌, ◌≤◌}
+use Rattle.line_list.proofs.Listing.{Begun, Standing}
 use Rattle.line_list.proofs.list.list_but_last.Given as goal
 
 abbrev pub invariant-loop-k : goal.invariant-loop-k

@@ -1,14 +1,10 @@
 -- After k turns the first k lines are in place, none longer than 20 bytes.
 use Prim.Native.Nat.{◌-◌, ◌*◌, ◌≤◌}
-use mathlib.Core.Path.{◌≡◌, ap, ◌∙◌}
-use native.Mathlib.Omega.{arith}
 use lib.ListN.{length}
 use Rattle.counting.specs.Count.{each}
 use Rattle.runs.specs.Painting.{run_at}
 use Rattle.lineruns_text.specs.Writing.{run_lines}
 use Rattle.buffer.specs.Written.{Wrote}
-use Rattle.buffer.proofs.Placing.{length-written}
-use Rattle.lineruns_text.proofs.RunLines.{lines_none, wrote_none, natural_read, length_more, line_room, line_wrote}
 use Rattle.lineruns_text.proofs.print.write_runs.Given as goal
 
 abbrev pub invariant-loop-k : goal.invariant-loop-k

@@ -1,10 +1,8 @@
 -- The value so far and the bytes that are left make what all the digits make; i digits make less than 10 to the power i.
 use Prim.Native.Nat.{◌-◌, ◌≤◌, ◌<◌, ◌^◌}
-use mathlib.Core.Path.{◌≡◌, sym, ◌∙◌}
-use native.Mathlib.Omega.{arith}
-use lib.ListN.{length, get_or, drop}
+use mathlib.Core.Path.{◌≡◌}
+use lib.ListN.{length, drop}
 use Rattle.lineruns_text.specs.Reading.{value_from, digits}
-use Rattle.lineruns_text.proofs.Numbers.{value_digit, value_low, value_high, value_end, digit_small, six_digits, digits-short, digits_long, digits_value}
 use Rattle.lineruns_text.proofs.read.digits_value.Given as goal
 
 abbrev pub invariant-loop-i : goal.invariant-loop-i

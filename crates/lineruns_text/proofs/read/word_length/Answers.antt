@@ -1,8 +1,6 @@
 -- No byte passed so far is a blank, so the first word begins with all of them.
-use Prim.Native.Nat.{◌-◌, ◌≤◌}
 use native.Mathlib.Omega.{arith}
-use lib.ListN.{length}
-use Rattle.lineruns_text.proofs.Splitting.{Passed, passed_first, passed_on, word_before_blank, word_at_end}
+use Rattle.lineruns_text.proofs.Splitting.{passed_first, passed_on, word_before_blank, word_at_end}
 use Rattle.lineruns_text.proofs.read.word_length.Goals as goal
 
 pub loop-i-init : goal.loop-i-init

@@ -1,8 +1,7 @@
 -- No byte passed so far is a blank, so the first word begins with all of them.
 use Prim.Native.Nat.{◌-◌, ◌≤◌}
-use native.Mathlib.Omega.{arith}
 use lib.ListN.{length}
-use Rattle.lineruns_text.proofs.Splitting.{Passed, passed_first, passed_on, word_before_blank, word_at_end}
+use Rattle.lineruns_text.proofs.Splitting.{Passed}
 use Rattle.lineruns_text.proofs.read.word_length.Given as goal
 
 abbrev pub invariant-loop-i : goal.invariant-loop-i

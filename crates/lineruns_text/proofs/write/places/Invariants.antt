@@ -1,10 +1,8 @@
 -- The digits counted so far and those of the rest are one more than all, since the count starts at 1.
 use Prim.Native.Nat.{◌+◌, ◌<◌, ◌^◌}
-use mathlib.Core.Path.{◌≡◌, ap}
-use native.Mathlib.Omega.{arith}
+use mathlib.Core.Path.{◌≡◌}
 use lib.ListN.{length}
 use Rattle.lineruns_text.specs.Writing.{decimal}
-use Rattle.lineruns_text.proofs.Decimals.{decimal_small, decimal-length, decimal_some, digit_count}
 use Rattle.lineruns_text.proofs.write.places.Given as goal
 
 abbrev pub invariant-loop-rest : goal.invariant-loop-rest

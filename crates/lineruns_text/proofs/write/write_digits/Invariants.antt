@@ -1,12 +1,9 @@
 -- The digits of the rest, written before those written so far, give the whole number.
-use Prim.Native.Nat.{◌+◌, ◌/◌, ◌<◌, ◌^◌}
-use mathlib.Core.Path.{◌≡◌, refl, ◌∙◌}
-use native.Mathlib.Omega.{arith}
-use lib.ListN.{length, length-set}
+use Prim.Native.Nat.{◌+◌, ◌<◌, ◌^◌}
+use mathlib.Core.Path.{◌≡◌}
+use lib.ListN.{length}
 use Rattle.lineruns_text.specs.Writing.{decimal}
 use Rattle.buffer.specs.Written.{written}
-use Rattle.lineruns_text.proofs.Decimals.{decimal_some, digit_count}
-use Rattle.lineruns_text.proofs.Figures.{figure_before, first_figure}
 use Rattle.lineruns_text.proofs.write.write_digits.Given as goal
 
 abbrev pub invariant-loop-rest : goal.invariant-loop-rest

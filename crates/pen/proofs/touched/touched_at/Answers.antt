@@ -4,7 +4,7 @@ use mathlib.Core.Path.{◌≡◌, ◌∙◌}
 use mathlib.Core.Option.{some}
 use mir.Syntax.{w32}
 use mir.ValLaws.{to_z-of_z}
-use Rattle.refusal.specs.Refusal.{given, first_met}
+use Rattle.refusal.specs.Refusal.{first_met}
 use Rattle.refusal.proofs.Handing.{refused_by, passed_by, handed_on}
 use Rattle.pen.specs.Touching.{point_conditions, pixel_of}
 use Rattle.pen.proofs.Conditions.{both_finite, both_in, passed_point}

@@ -1,8 +1,5 @@
 -- While the bits so far are 0, so is each byte so far: an or is 0 only where both sides are.
-use Prim.Native.Nat.{◌-◌, ◌≤◌}
-use mathlib.Core.Path.{◌≡◌}
 use native.Mathlib.Omega.{arith}
-use Rattle.raster.specs.Search.{Zeros}
 use Rattle.raster.proofs.Passing.{zeros_none, zeros_on}
 use Rattle.raster.proofs.search.any_bits.Goals as goal
 

@@ -1,15 +1,11 @@
 -- Nothing is found while what is passed is unmarked: the rows above, the bytes before and the bits before.
-use Prim.Native.Nat.{ℕ, ◌+◌, ◌-◌, ◌*◌, ◌≤◌}
-use mathlib.Core.List.{List}
-use mathlib.Core.Path.{◌≡◌, refl, ◌∙◌}
+use Prim.Native.Nat.{◌+◌, ◌*◌, ◌≤◌}
+use mathlib.Core.Path.{refl, ◌∙◌}
 use lib.ListN.{length}
 use native.Mathlib.Omega.{arith}
-use Rattle.raster.specs.declared.search.Cell.{Cell}
-use Rattle.raster.specs.declared.search.Cell.TheVariants.{Nothing}
 use Rattle.raster.proofs.Frames.{size_in, frame}
-use Rattle.raster.proofs.Passing.{row_in, Passed, RowsPassed, rows_on, bytes_on, bit_on, pixel_is, bit_set, bit_clear}
+use Rattle.raster.proofs.Passing.{row_in, rows_on, bytes_on, bit_on, pixel_is, bit_set, bit_clear}
 use Rattle.raster.proofs.Searching.{none_marked, first_is}
-use Rattle.raster.proofs.search.first_cell.Invariants.{RowsDone, BytesDone, BitsDone}
 use Rattle.raster.proofs.search.first_cell.Goals.{then-column-width+else-b-bit-eq1, else-column-width, In-rows}
 use Rattle.raster.proofs.search.first_cell.Goals as goal
 

@@ -1,15 +1,10 @@
 -- Nothing is found while what is passed is unmarked: the rows above, the bytes before and the bits before.
 use Prim.Native.Nat.{ℕ, ◌+◌, ◌-◌, ◌*◌, ◌≤◌}
 use mathlib.Core.List.{List}
-use mathlib.Core.Path.{◌≡◌, refl, ◌∙◌}
-use lib.ListN.{length}
-use mathlib.Core.Logic.{⊎_elim}
-use native.Mathlib.Omega.{arith}
+use mathlib.Core.Path.{◌≡◌}
 use Rattle.raster.specs.declared.search.Cell.{Cell}
 use Rattle.raster.specs.declared.search.Cell.TheVariants.{Nothing}
-use Rattle.raster.proofs.Frames.{size_in, frame}
-use Rattle.raster.proofs.Passing.{row_in, Passed, RowsPassed, rows_on, bytes_on, bit_on, pixel_is, bit_set, bit_clear}
-use Rattle.raster.proofs.Searching.{none_marked, first_is}
+use Rattle.raster.proofs.Passing.{Passed, RowsPassed}
 use Rattle.raster.proofs.search.first_cell.Given as goal
 
 pub record RowsDone (raster : List ℕ) (bytes width height : ℕ) (cell : Cell) (row start : ℕ) : Type 0 where

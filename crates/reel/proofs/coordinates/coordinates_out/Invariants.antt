@@ -1,17 +1,12 @@
 -- No coordinate passed is out of range.
 use Prim.Native.Nat.{◌-◌, ◌≤◌}
-use mathlib.Core.Path.{◌≡◌, sym, ap, ◌∙◌}
+use mathlib.Core.Path.{◌≡◌}
 use mathlib.Core.Bool.{false}
-use native.Mathlib.Omega.{arith}
 use lib.IntN.{pos}
-use lib.ListN.{length, get_or}
-use mir.Syntax.{w32}
-use mir.ValLaws.{to_z-of_z}
+use lib.ListN.{get_or}
 use Rattle.counting.specs.Count.{any}
-use Rattle.counting.proofs.Any.{any-zero, any_more, any_make}
 use Rattle.coordinate.specs.Coordinate.{out_of_range}
-use Rattle.reel.specs.Reel.{coordinates_out, coordinates}
-use Rattle.reel.proofs.Records.{coordinates-length}
+use Rattle.reel.specs.Reel.{coordinates}
 use Rattle.reel.proofs.coordinates.coordinates_out.Given as goal
 
 abbrev pub invariant-loop-k : goal.invariant-loop-k

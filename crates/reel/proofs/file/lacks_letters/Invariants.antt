@@ -1,15 +1,11 @@
 -- The bytes passed are the letters.
 use Prim.Native.Nat.{◌+◌, ◌-◌, ◌≤◌}
-use mathlib.Core.Path.{◌≡◌, sym, ap}
+use mathlib.Core.Path.{◌≡◌}
 use mathlib.Core.Bool.{false, not}
-use native.Mathlib.Omega.{arith}
 use lib.ListN.{length, get_or}
 use lib.Dec.{eqb}
-use borrow.Author.Tests.{eq-eqb, ne_eqb}
 use Rattle.counting.specs.Count.{any}
-use Rattle.counting.proofs.Any.{any-zero, any_more, any_make}
 use Rattle.reel.specs.Reel.{letters}
-use Rattle.reel.specs.Reading.{lacks_letters}
 use Rattle.reel.proofs.file.lacks_letters.Given as goal
 
 abbrev pub invariant-loop-k : goal.invariant-loop-k

@@ -1,9 +1,7 @@
 -- The numbers passed have risen to the one before.
-use Prim.Native.Nat.{◌-◌, ◌≤◌}
 use mathlib.Core.Path.{refl, sym}
 use native.Mathlib.Omega.{arith}
-use lib.ListN.{length}
-use Rattle.reel.proofs.Tables.{Risen, risen_none, risen_on, falls_here, risen_all}
+use Rattle.reel.proofs.Tables.{risen_none, risen_on, falls_here, risen_all}
 use Rattle.reel.proofs.list.falls_in.Goals as goal
 
 pub loop-k-init : goal.loop-k-init

@@ -1,9 +1,7 @@
 -- The numbers passed have risen to the one before.
 use Prim.Native.Nat.{◌-◌, ◌≤◌}
-use mathlib.Core.Path.{refl, sym}
-use native.Mathlib.Omega.{arith}
 use lib.ListN.{length}
-use Rattle.reel.proofs.Tables.{Risen, risen_none, risen_on, falls_here, risen_all}
+use Rattle.reel.proofs.Tables.{Risen}
 use Rattle.reel.proofs.list.falls_in.Given as goal
 
 abbrev pub invariant-loop-k : goal.invariant-loop-k

@@ -1,5 +1,5 @@
 -- The numbers passed have risen to the one before.
-use Prim.Native.Nat.{ℕ, suc, ◌+◌, ◌*◌, ◌-◌, ◌≤◌}
+use Prim.Native.Nat.{ℕ, suc, ◌+◌, ◌*◌}
 use mathlib.Core.Path.{◌≡◌, sym, ◌∙◌}
 use mathlib.Core.List.{List}
 use native.Mathlib.Omega.{arith}
@@ -7,7 +7,7 @@ use lib.ListN.{length}
 use Rattle.counting.proofs.Each.{each-length, each_at}
 use Rattle.reel.specs.Numbers.{number_at}
 use Rattle.reel.specs.Reel.{records_before, numbers_from}
-use Rattle.reel.proofs.Tables.{Risen, risen_none, risen_on, falls_here, risen_all}
+use Rattle.reel.proofs.Tables.{risen_none, risen_on, falls_here, risen_all}
 use Rattle.reel.proofs.table.table_falls.Goals.{After-word-next, Start}
 use Rattle.reel.proofs.table.table_falls.Goals as goal
 

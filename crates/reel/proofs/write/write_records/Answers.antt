@@ -1,16 +1,14 @@
 -- After k turns the first k coordinates are in place.
-use Prim.Native.Nat.{ℕ, ◌+◌, ◌*◌, ◌-◌, ◌≤◌}
+use Prim.Native.Nat.{◌+◌, ◌*◌, ◌≤◌}
 use mathlib.Core.Path.{◌≡◌}
-use mathlib.Core.List.{List}
 use native.Mathlib.Omega.{arith}
 use lib.IntN.{ℤ, pos}
 use lib.ListN.{length, get_or}
 use mir.Syntax.{w32}
 use mir.Val.{to_z, of_z}
 use mir.ValLaws.{to_z-of_z}
-use Rattle.buffer.specs.Written.{Wrote}
-use Rattle.reel.specs.Numbers.{bytes_of, complement}
-use Rattle.reel.proofs.Encoding.{bytes_length, first_items, first_none, next_room, first_on, first-same, first_all}
+use Rattle.reel.specs.Numbers.{complement}
+use Rattle.reel.proofs.Encoding.{bytes_length, first_none, next_room, first_on, first-same, first_all}
 use Rattle.reel.proofs.Records.{in_list}
 use Rattle.reel.proofs.write.write_records.Invariants.{two}
 use Rattle.reel.proofs.write.write_records.Goals.{After-write_coordinate-arg-1, Start}

@@ -1,17 +1,11 @@
 -- After k turns the first k coordinates are in place.
-use Prim.Native.Nat.{ℕ, ◌+◌, ◌*◌, ◌-◌, ◌≤◌}
-use mathlib.Core.Path.{◌≡◌}
+use Prim.Native.Nat.{ℕ, ◌-◌, ◌≤◌}
 use mathlib.Core.List.{List}
-use native.Mathlib.Omega.{arith}
-use lib.IntN.{ℤ, pos}
-use lib.ListN.{length, get_or}
-use mir.Syntax.{w32}
-use mir.Val.{to_z, of_z}
-use mir.ValLaws.{to_z-of_z}
+use lib.IntN.{ℤ}
+use lib.ListN.{length}
 use Rattle.buffer.specs.Written.{Wrote}
 use Rattle.reel.specs.Numbers.{bytes_of, complement}
-use Rattle.reel.proofs.Encoding.{bytes_length, first_items, first_none, next_room, first_on, first-same, first_all}
-use Rattle.reel.proofs.Records.{in_list}
+use Rattle.reel.proofs.Encoding.{first_items}
 use Rattle.reel.proofs.write.write_records.Given as goal
 
 -- a coordinate's bytes

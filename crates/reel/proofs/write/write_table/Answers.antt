@@ -1,10 +1,7 @@
 -- After k turns the first k numbers are in place.
-use Prim.Native.Nat.{◌-◌, ◌≤◌}
 use native.Mathlib.Omega.{arith}
-use lib.ListN.{length}
-use Rattle.buffer.specs.Written.{Wrote}
 use Rattle.reel.specs.Numbers.{bytes_of}
-use Rattle.reel.proofs.Encoding.{bytes_length, first_items, first_none, next_room, first_on, first-same, first_all}
+use Rattle.reel.proofs.Encoding.{bytes_length, first_none, next_room, first_on, first-same, first_all}
 use Rattle.reel.proofs.write.write_table.Goals as goal
 
 pub loop-k-init : goal.loop-k-init

@@ -1,10 +1,9 @@
 -- After k turns the first k numbers are in place.
 use Prim.Native.Nat.{◌-◌, ◌≤◌}
-use native.Mathlib.Omega.{arith}
 use lib.ListN.{length}
 use Rattle.buffer.specs.Written.{Wrote}
 use Rattle.reel.specs.Numbers.{bytes_of}
-use Rattle.reel.proofs.Encoding.{bytes_length, first_items, first_none, next_room, first_on, first-same, first_all}
+use Rattle.reel.proofs.Encoding.{first_items}
 use Rattle.reel.proofs.write.write_table.Given as goal
 
 abbrev pub invariant-loop-k : goal.invariant-loop-k

@@ -1,8 +1,7 @@
 -- The raster is the start plus the pixels of the records' lines drawn so far; their counts are added up.
-use Prim.Native.Nat.{◌+◌, ◌-◌, ◌≤◌}
-use native.Mathlib.Omega.{arith}
+use Prim.Native.Nat.{◌-◌, ◌≤◌}
 use Rattle.reel.specs.Reel.{coordinates}
-use Rattle.reel_draw.proofs.RecordLaws.{Drew, drew_length, fresh_most, drew_none, records_in_bytes, drew_on, drew_all}
+use Rattle.reel_draw.proofs.RecordLaws.{Drew}
 use Rattle.reel_draw.proofs.records.draw_records.Given as goal
 
 abbrev pub invariant-loop-k : goal.invariant-loop-k

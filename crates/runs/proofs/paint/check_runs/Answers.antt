@@ -1,10 +1,9 @@
 -- At place k the runs below it are lawful.
-use Prim.Native.Nat.{◌-◌, ◌≤◌}
 use mathlib.Core.Path.{◌≡◌, sym, ap, ◌∙◌}
 use native.Mathlib.Omega.{arith}
 use borrow.Author.Count.{below_more}
 use Rattle.runs.specs.Parts.{stored_at, bad_run}
-use Rattle.runs.proofs.Painting.{LawfulTo, found_bad, found_none}
+use Rattle.runs.proofs.Painting.{found_bad, found_none}
 use Rattle.runs.proofs.paint.check_runs.Goals.{After-run_bad}
 use Rattle.runs.proofs.paint.check_runs.Goals as goal
 

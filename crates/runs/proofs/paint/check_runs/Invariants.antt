@@ -1,10 +1,6 @@
 -- At place k the runs below it are lawful.
 use Prim.Native.Nat.{◌-◌, ◌≤◌}
-use mathlib.Core.Path.{◌≡◌, sym, ap, ◌∙◌}
-use native.Mathlib.Omega.{arith}
-use borrow.Author.Count.{below_more}
-use Rattle.runs.specs.Parts.{stored_at, bad_run}
-use Rattle.runs.proofs.Painting.{LawfulTo, found_bad, found_none}
+use Rattle.runs.proofs.Painting.{LawfulTo}
 use Rattle.runs.proofs.paint.check_runs.Given as goal
 
 abbrev pub invariant-loop-k : goal.invariant-loop-k

@@ -1,6 +1,6 @@
 -- At turn k the first k runs are painted and counted; each adds at most 32768 to the sum, and
 -- the new pixels are no more than the raster's bits.
-use Prim.Native.Nat.{ℕ, ◌+◌, ◌-◌, ◌*◌, ◌≤◌}
+use Prim.Native.Nat.{ℕ, ◌+◌, ◌≤◌}
 use mathlib.Core.Path.{◌≡◌, ap, ◌∙◌}
 use native.Mathlib.Omega.{arith}
 use lib.ListN.{length}

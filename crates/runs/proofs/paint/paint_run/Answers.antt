@@ -1,7 +1,6 @@
 -- What is left of the run is filled along its axis; where nothing is left, no pixel of the window is the run's.
 use Prim.Native.Nat.{◌+◌}
 use mathlib.Core.Path.{◌≡◌, sym, ap, ◌∙◌}
-use mathlib.Core.Logic.{⊎_elim}
 use native.Mathlib.Omega.{arith}
 use lib.ListN.{length}
 use Rattle.coordinate.specs.declared.Axis.TheVariants.{X, Y}
