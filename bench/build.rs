@@ -1,4 +1,4 @@
-//! Links the library's archive, which `rt staticlib capi` writes.
+//! Links the library's archive, which `tools/archive` writes.
 use std::path::Path;
 
 fn main() {
@@ -6,7 +6,7 @@ fn main() {
     println!("cargo:rerun-if-changed={}", archive.display());
     assert!(
         archive.exists(),
-        "the archive is missing: run `rt staticlib capi` at the repository's root"
+        "the archive is missing: run `tools/archive` at the repository's root"
     );
     let folder = archive.parent().and_then(|folder| folder.canonicalize().ok());
     let folder = folder.expect("the archive's folder can be read");

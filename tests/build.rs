@@ -1,4 +1,4 @@
-//! Says where the library's archive is. It is written by `rt staticlib capi`, run at the repository's root.
+//! Says where the library's archive is. It is written by `tools/archive`.
 use std::env;
 
 fn main() {
