@@ -96,11 +96,11 @@ fn draws_on(
     if !answers(first, refusal, count, count) {
         return false;
     }
-    if !check::same(raster, expected) {
+    if &*raster != expected {
         return false;
     }
     let again = draw_by(drawer, ends, window, raster);
-    answers(again, refusal, count, 0) && check::same(raster, expected)
+    answers(again, refusal, count, 0) && &*raster == expected
 }
 
 // The same on a clear raster, which has room for the expected one.

@@ -2,30 +2,31 @@
 // reverse order.
 use crate::drawers::alike;
 use crate::lettered::print_runs;
-use crate::print::{print, print_end, print_ends, print_marks};
+use crate::print::{print_end, print_ends, print_marks};
 use crate::small::{BYTES, LIST, WINDOW, list_line};
 use line::ends::Ends;
 use line_draw::draw::{draw_double, draw_single};
 use raster::drawn::{Drawn, Marks};
+use std::io;
 
 // Lists a line, prints a text and its runs, and answers how many they are.
-fn print_list(text: &[u8], ends: Ends, list: &mut [i32]) -> u32 {
+fn print_list(rt: &impl Print, text: &str, ends: Ends, list: &mut [i32]) -> io::Result<u32> {
     let runs = list_line(ends, list);
-    print(text);
-    print_runs(list, runs);
-    runs
+    rt.print(text)?;
+    print_runs(rt, list, runs)?;
+    Ok(runs)
 }
 
 // Prints a drawer's counts and answers them. A refusal has counts of 0.
-fn print_drawn(drawn: Drawn) -> Marks {
+fn print_drawn(rt: &impl Print, drawn: Drawn) -> io::Result<Marks> {
     match drawn {
         Drawn::Marked(marks) => {
-            print_marks(b"; count ", marks);
-            marks
+            print_marks(rt, "; count ", marks)?;
+            Ok(marks)
         }
         Drawn::Refused(_) => {
-            print(b"; refused");
-            Marks { count: 0, fresh: 0 }
+            rt.print("; refused")?;
+            Ok(Marks { count: 0, fresh: 0 })
         }
     }
 }
@@ -61,7 +62,7 @@ fn same_pixels(ends: Ends, first: Marks, back: Ends, second: Marks) -> bool {
 }
 
 // Prints a line and the line with its ends exchanged, each listed, and drawn on the same raster.
-fn show(x0: i32, y0: i32, x1: i32, y1: i32) {
+fn show(rt: &impl Print, x0: i32, y0: i32, x1: i32, y1: i32) -> io::Result<()> {
     let ends = Ends { x0, y0, x1, y1 };
     let back = Ends {
         x0: x1,
@@ -72,22 +73,22 @@ fn show(x0: i32, y0: i32, x1: i32, y1: i32) {
     let mut raster = [0u8; BYTES];
     let mut a = [0i32; LIST];
     let mut b = [0i32; LIST];
-    print_ends(b"exchanged ", ends);
-    let a_runs = print_list(b": runs", ends, &mut a);
-    let first = print_drawn(draw_single(ends, WINDOW, &mut raster));
-    let b_runs = print_list(b"; back runs", back, &mut b);
-    let second = print_drawn(draw_double(back, WINDOW, &mut raster));
+    print_ends(rt, "exchanged ", ends)?;
+    let a_runs = print_list(rt, ": runs", ends, &mut a)?;
+    let first = print_drawn(rt, draw_single(ends, WINDOW, &mut raster))?;
+    let b_runs = print_list(rt, "; back runs", back, &mut b)?;
+    let second = print_drawn(rt, draw_double(back, WINDOW, &mut raster))?;
     let reversed = reverse(&a, a_runs, &b, b_runs);
     let same = same_pixels(ends, first, back, second);
     // `&` makes no branch, so there is less to prove.
-    print_end(reversed & same);
+    print_end(rt, reversed & same)
 }
 
 // Prints the lines.
-pub fn show_all() {
-    show(0, 0, 2, 1);
-    show(0, 0, 4, -2);
-    show(0, 0, -2, 4);
-    show(3, -2, -3, 1);
-    show(5, 5, 5, 5);
+pub fn show_all(rt: &impl Print) -> io::Result<()> {
+    show(rt, 0, 0, 2, 1)?;
+    show(rt, 0, 0, 4, -2)?;
+    show(rt, 0, 0, -2, 4)?;
+    show(rt, 3, -2, -3, 1)?;
+    show(rt, 5, 5, 5, 5)
 }

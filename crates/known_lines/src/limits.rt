@@ -2,12 +2,13 @@
 ghost use Rattle.std.specs.Prelude.{◌≤◌};
 
 use crate::drawers::{ROOM, alike, bytes};
-use crate::print::{print, print_end, print_number};
+use crate::print::{print_end, print_number};
 use line::ends::Ends;
 use line_draw::draw::draw_single;
 use line_list::list::{Listed, list_runs};
 use raster::drawn::Drawn;
 use raster::window::{MadeWindow, Window};
+use std::io;
 
 // The number of the refusal that the single-step drawer answers on a raster of the window's length, or 0 where it draws.
 fn draw_refusal(ends: Ends, window: Window) -> u32 {
@@ -42,17 +43,17 @@ fn maker_refusal(window: Window) -> u32 {
 }
 
 // Prints how an operation answered: `taken` for 0, else the refusal's number.
-fn print_answer(refusal: u32) {
+fn print_answer(rt: &impl Print, refusal: u32) -> io::Result<()> {
     if refusal == 0 {
-        print(b" taken");
+        rt.print(" taken")
     } else {
-        print_number(b" refused ", refusal as u64);
+        print_number(rt, " refused ", refusal as u64)
     }
 }
 
 // A line from (0,0) to a column of row 0, by every drawer and the lister.
-fn show_end(name: &[u8], column: i32) {
-    print(name);
+fn show_end(rt: &impl Print, name: &str, column: i32) -> io::Result<()> {
+    rt.print(name)?;
     let ends = Ends {
         x0: 0,
         y0: 0,
@@ -66,13 +67,16 @@ fn show_end(name: &[u8], column: i32) {
         height: 1,
     };
     let refusal = draw_refusal(ends, window);
-    print_answer(refusal);
-    print_end(alike(ends, window, refusal) && list_refusal(ends, 12) == refusal);
+    print_answer(rt, refusal)?;
+    print_end(
+        rt,
+        alike(ends, window, refusal) && list_refusal(ends, 12) == refusal,
+    )
 }
 
 // A window of one row and this width, by the window's maker and every drawer.
-fn show_width(width: u32) {
-    print_number(b"width ", width as u64);
+fn show_width(rt: &impl Print, width: u32) -> io::Result<()> {
+    print_number(rt, "width ", width as u64)?;
     let ends = Ends {
         x0: 0,
         y0: 0,
@@ -86,33 +90,36 @@ fn show_width(width: u32) {
         height: 1,
     };
     let refusal = draw_refusal(ends, window);
-    print_answer(refusal);
-    print_end(alike(ends, window, refusal) && maker_refusal(window) == refusal);
+    print_answer(rt, refusal)?;
+    print_end(
+        rt,
+        alike(ends, window, refusal) && maker_refusal(window) == refusal,
+    )
 }
 
 // Line H with a list of `n` numbers.
-fn show_list(n: usize)
+fn show_list(rt: &impl Print, n: usize) -> io::Result<()>
     requires { n ≤ 12 }
 {
-    print_number(b"line H's list of ", n as u64);
-    print(b" numbers");
+    print_number(rt, "line H's list of ", n as u64)?;
+    rt.print(" numbers")?;
     let ends = Ends {
         x0: 0,
         y0: 0,
         x1: 11,
         y1: 3,
     };
-    print_answer(list_refusal(ends, n));
-    print(b"\n");
+    print_answer(rt, list_refusal(ends, n))?;
+    rt.print("\n")
 }
 
 // Prints each limit that the document gives, with its answer.
-pub fn show_all() {
-    show_end(b"end (16383,0)", 16383);
-    show_end(b"end (16384,0)", 16384);
-    show_width(8192);
-    show_width(0);
-    show_width(8193);
-    show_list(12);
-    show_list(11);
+pub fn show_all(rt: &impl Print) -> io::Result<()> {
+    show_end(rt, "end (16383,0)", 16383)?;
+    show_end(rt, "end (16384,0)", 16384)?;
+    show_width(rt, 8192)?;
+    show_width(rt, 0)?;
+    show_width(rt, 8193)?;
+    show_list(rt, 12)?;
+    show_list(rt, 11)
 }

@@ -15,10 +15,12 @@ mod second;
 mod small;
 mod square;
 
-fn main() {
-    lettered::show_all();
-    limits::show_all();
-    nudge::show_all();
-    exchanged::show_all();
-    square::show_all();
+use std::io;
+
+fn main(rt: HostRuntime) -> io::Result<()> {
+    lettered::show_all(&rt)?;
+    limits::show_all(&rt)?;
+    nudge::show_all(&rt)?;
+    exchanged::show_all(&rt)?;
+    square::show_all(&rt)
 }

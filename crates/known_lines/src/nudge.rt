@@ -3,10 +3,11 @@
 ghost use Rattle.std.specs.Prelude.{◌<◌, ◌≤◌};
 
 use crate::distance::{ZERO, from_lowest, gap, larger};
-use crate::print::{print, print_end, print_ends, print_number, print_pixel, print_signed};
+use crate::print::{print_end, print_ends, print_number, print_pixel, print_signed};
 use crate::small::{LIST, list_line};
 use coordinate::less;
 use line::ends::Ends;
+use std::io;
 
 // No coordinate: stands for the short coordinate at a step that a line does not have.
 const NONE: i32 = 16384;
@@ -30,16 +31,16 @@ fn short_at(list: &[i32], runs: u32, i: u32) -> i32 {
 }
 
 // Prints a text, then the short coordinates at steps 0 to `l`, and answers whether the line has these steps and no more.
-fn print_steps(text: &[u8], list: &[i32], runs: u32, l: u32) -> bool
+fn print_steps(rt: &impl Print, text: &str, list: &[i32], runs: u32, l: u32) -> io::Result<bool>
     requires { l < 32768 }
 {
-    print(text);
+    rt.print(text)?;
     let mut i: u32 = 0;
     while i <= l {
-        print_signed(b" ", short_at(list, runs, i));
+        print_signed(rt, " ", short_at(list, runs, i))?;
         i += 1;
     }
-    short_at(list, runs, l) != NONE && short_at(list, runs, l + 1) == NONE
+    Ok(short_at(list, runs, l) != NONE && short_at(list, runs, l + 1) == NONE)
 }
 
 // How far apart the lines may be at step `i`: i × d / L, rounded up.
@@ -53,41 +54,49 @@ fn most_apart(i: u32, d: u32, l: u32) -> u32
 }
 
 // Prints how far apart the lines may be at steps 0 to `l`, and answers whether they are no further apart at any.
-fn print_most(a: &[i32], a_runs: u32, b: &[i32], b_runs: u32, d: u32, l: u32) -> bool
+fn print_most(
+    rt: &impl Print,
+    a: &[i32],
+    a_runs: u32,
+    b: &[i32],
+    b_runs: u32,
+    d: u32,
+    l: u32,
+) -> io::Result<bool>
     requires { (d < 32768) × (l < 32768) }
 {
-    print(b", at most");
+    rt.print(", at most")?;
     let mut near = true;
     let mut i: u32 = 0;
     while i <= l {
         let most = most_apart(i, d, l);
-        print_number(b" ", most as u64);
+        print_number(rt, " ", most as u64)?;
         if most < gap(short_at(a, a_runs, i), short_at(b, b_runs, i)) {
             near = false;
         }
         i += 1;
     }
-    print(b" apart");
-    near
+    rt.print(" apart")?;
+    Ok(near)
 }
 
 // Prints the lines' short coordinates and how far apart they may be.
-fn print_lines(first: Ends, second: Ends, d: u32, l: u32)
+fn print_lines(rt: &impl Print, first: Ends, second: Ends, d: u32, l: u32) -> io::Result<()>
     requires { (d < 32768) × (l < 32768) }
 {
     let mut a = [0i32; LIST];
     let mut b = [0i32; LIST];
     let a_runs = list_line(first, &mut a);
     let b_runs = list_line(second, &mut b);
-    let first_whole = print_steps(b": short", &a, a_runs, l);
-    let second_whole = print_steps(b" and", &b, b_runs, l);
-    let near = print_most(&a, a_runs, &b, b_runs, d, l);
+    let first_whole = print_steps(rt, ": short", &a, a_runs, l)?;
+    let second_whole = print_steps(rt, " and", &b, b_runs, l)?;
+    let near = print_most(rt, &a, a_runs, &b, b_runs, d, l)?;
     // `&` makes no branch, so there is less to prove.
-    print_end(first_whole & second_whole & near);
+    print_end(rt, first_whole & second_whole & near)
 }
 
 // Prints the lines from (x0,y0) to (x1,y1) and to (x2,y2).
-fn show(x0: i32, y0: i32, x1: i32, y1: i32, x2: i32, y2: i32) {
+fn show(rt: &impl Print, x0: i32, y0: i32, x1: i32, y1: i32, x2: i32, y2: i32) -> io::Result<()> {
     let first = Ends { x0, y0, x1, y1 };
     let second = Ends {
         x0,
@@ -95,27 +104,27 @@ fn show(x0: i32, y0: i32, x1: i32, y1: i32, x2: i32, y2: i32) {
         x1: x2,
         y1: y2,
     };
-    print_ends(b"nudge ", first);
-    print(b" and ");
-    print_pixel(x2, y2);
+    print_ends(rt, "nudge ", first)?;
+    rt.print(" and ")?;
+    print_pixel(rt, x2, y2)?;
     let dx = gap(x0, x1);
     let dy = gap(y0, y1);
     let l = larger(dx, dy);
     // Where the rows are further apart than the columns, the short coordinate is the column, else the row.
     if dx < dy {
-        print_lines(first, second, gap(x1, x2), l);
+        print_lines(rt, first, second, gap(x1, x2), l)
     } else {
-        print_lines(first, second, gap(y1, y2), l);
+        print_lines(rt, first, second, gap(y1, y2), l)
     }
 }
 
 // Prints the nudges.
-pub fn show_all() {
-    show(0, 0, 2, 1, 2, -1);
-    show(0, 0, 2, 0, 2, 1);
-    show(0, 0, 6, 3, 6, 2);
-    show(0, 0, 1, 4, -1, 4);
-    show(3, -2, -3, 1, -3, -5);
-    show(0, 0, -2, -4, 0, -4);
-    show(0, 0, 5, 5, 5, -5);
+pub fn show_all(rt: &impl Print) -> io::Result<()> {
+    show(rt, 0, 0, 2, 1, 2, -1)?;
+    show(rt, 0, 0, 2, 0, 2, 1)?;
+    show(rt, 0, 0, 6, 3, 6, 2)?;
+    show(rt, 0, 0, 1, 4, -1, 4)?;
+    show(rt, 3, -2, -3, 1, -3, -5)?;
+    show(rt, 0, 0, -2, -4, 0, -4)?;
+    show(rt, 0, 0, 5, 5, 5, -5)
 }

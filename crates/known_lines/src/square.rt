@@ -1,9 +1,10 @@
 // Every line between two pixels of a small square, in every direction, in several windows.
 use crate::drawers::alike;
-use crate::print::{print, print_end, print_number, print_window};
+use crate::print::{print_end, print_number, print_window};
 use coordinate::Coordinate;
 use line::ends::Ends;
 use raster::window::Window;
+use std::io;
 
 // The square: its first column and row, −3, counted from the lowest coordinate, and its side.
 const FIRST: u32 = 16381;
@@ -36,32 +37,30 @@ fn count_alike(window: Window) -> u32 {
 }
 
 // Prints a window, and how many of the square's lines are drawn alike there.
-fn show(left: i32, top: i32, width: u32, height: u32) {
+fn show(rt: &impl Print, left: i32, top: i32, width: u32, height: u32) -> io::Result<()> {
     let window = Window {
         left,
         top,
         width,
         height,
     };
-    print(b"square");
-    print_window(window);
+    rt.print("square")?;
+    print_window(rt, window)?;
     let count = count_alike(window);
-    print_number(b"", count as u64);
-    print_number(b" of ", LINES as u64);
-    print(b" lines alike");
-    print_end(count == LINES);
+    print!(rt; "{count} of {LINES} lines alike")?;
+    print_end(rt, count == LINES)
 }
 
 // Prints the windows.
-pub fn show_all() {
-    show(-3, -3, 7, 7);
-    show(0, 0, 1, 1);
-    show(-4, -4, 2, 2);
-    show(-3, 1, 7, 1);
-    show(1, -3, 1, 7);
-    show(-5, -5, 12, 9);
-    show(2, -1, 9, 3);
-    show(-9, -2, 8, 4);
-    show(-2, -9, 5, 8);
-    show(8, 8, 16, 16);
+pub fn show_all(rt: &impl Print) -> io::Result<()> {
+    show(rt, -3, -3, 7, 7)?;
+    show(rt, 0, 0, 1, 1)?;
+    show(rt, -4, -4, 2, 2)?;
+    show(rt, -3, 1, 7, 1)?;
+    show(rt, 1, -3, 1, 7)?;
+    show(rt, -5, -5, 12, 9)?;
+    show(rt, 2, -1, 9, 3)?;
+    show(rt, -9, -2, 8, 4)?;
+    show(rt, -2, -9, 5, 8)?;
+    show(rt, 8, 8, 16, 16)
 }
