@@ -1,9 +1,10 @@
 /* Tuffcotton: the scratch-mask library of a film scanner's panel, for programs in C.
  *
- * Link target/staticlib/libcapi.a, which `tools/archive` writes. It calls memset of the C library. Every function takes every number: it answers, or it refuses with a number of document 01's list, which document 02
- * goes on with, and then no buffer has changed. The buffers are the caller's: a function reads or writes the given number of
- * elements and no others, keeps no pointer after it has returned, and has no memory of its own but its stack (tc_lineruns about
- * 60 KB). A pointer is never NULL, also where its length is 0, and a buffer that is written does not overlap another.
+ * Link target/staticlib/libcapi.a, which `tools/archive` writes. It calls memset of the C library. Every function takes every
+ * number: it answers, or it refuses with a number of document 01's list, which document 02 goes on with, and then no buffer has
+ * changed. The buffers are the caller's: a function reads or writes the given number of elements and no others, keeps no pointer
+ * after it has returned, and has no memory of its own but its stack (tc_lineruns about 60 KB). A pointer is never NULL, also where
+ * its length is 0, and a buffer that is written does not overlap another.
  *
  * Columns grow rightwards, rows downwards; a coordinate is from -16384 to 16383. A raster has one bit a pixel, rows from the
  * top, each of (width + 7) / 8 bytes, the leftmost pixel of a byte worth 128; bits past the width are padding, never changed

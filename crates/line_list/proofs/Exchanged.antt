@@ -94,17 +94,16 @@ module _ (e : Ends) where
     unfolding run
     run_back = same-run _ _ (across_back (first_step (exchanged e) k) (first_step e l) k l q) lowest_are pixels_are
 
+  runs_back : runs (exchanged e) ≡ reverse (runs e)
+  runs_back =
+      runs-each (exchanged e)
+      ∙ ap (λ (n : ℕ). each (n + 1) (run (exchanged e))) (same_pixels e).short_is
+      ∙ each_cong (short e + 1) _ _ (λ k q. run_back k (short e + 1 - 1 - k) (omega arith))
+      ∙ sym (each_back (short e + 1) (run e))
+      ∙ ap reverse (sym (runs-each e))
+
   pub runs_reversed : RunsReversed e
-  runs_reversed =
-      record {
-        run_is = λ k q. run_back k (short e - k) (omega arith);
-        runs_are =
-            runs-each (exchanged e)
-            ∙ ap (λ (n : ℕ). each (n + 1) (run (exchanged e))) (same_pixels e).short_is
-            ∙ each_cong (short e + 1) _ _ (λ k q. run_back k (short e + 1 - 1 - k) (omega arith))
-            ∙ sym (each_back (short e + 1) (run e))
-            ∙ ap reverse (sym (runs-each e));
-      }
+  runs_reversed = record { run_is = λ k q. run_back k (short e - k) (omega arith); runs_are = search runs_back }
 
   -- ---- lister and painter
 

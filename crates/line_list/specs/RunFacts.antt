@@ -1,4 +1,4 @@
--- Document 01, 'The equal_raster rule': a line's runs are its pixels in the line's order, and painting its run list is
+-- Document 01, 'The equal-raster rule': a line's runs are its pixels in the line's order, and painting its run list is
 -- drawing it; their proofs are in proofs/RunFacts.antt. Assumes nothing.
 use Rattle.std.specs.Prelude.{ℕ, ◌+◌, ◌-◌, ◌*◌, ◌≤◌, ◌<◌, ◌≡◌, Bool, false, cond, List, ◌++◌, ℤ, pos, length}
 use Rattle.std.proofs.Math.Option.{none}

@@ -21,8 +21,8 @@ pub fn rounds_out(x: f32) -> bool
 
 // The whole number nearest to `x`. The fraction has the sign of `x`, so at −1/2 the whole part is the larger neighbour.
 pub fn rounded(x: f32) -> i32
-    requires fact_1 { finite x ≡ true }
-    requires fact_2 { out_of_range (nearest_to x) ≡ false }
+    requires is_finite { finite x ≡ true }
+    requires in_range { out_of_range (nearest_to x) ≡ false }
     ensures { result ≡ nearest_to x }
 {
     let fraction = x % 1.0;

@@ -40,7 +40,7 @@ walk_pairs-requires c = (
   c.stride_of-by.ensures,
   c.requires.2,
   c.enter-start.ensures,
-  omega (arith, c.if-from-eq0.true),
+  omega arith,
 )
 
 -- ---- the single step
@@ -102,7 +102,7 @@ walk_pairs-requires-2 c = let p = (goal.at.walk_pairs-requires-2 c).After-put_bi
       a.stride_of-by.ensures,
       shown_part s.requires.2 (s.args.from + 1) s.args.end (omega arith) (omega arith) (omega arith),
       c.next-at.ensures,
-      odd s.args.from c.if-from-eq0.false,
+      omega arith,
     )
 
 -- together they are all steps

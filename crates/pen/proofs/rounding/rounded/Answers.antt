@@ -12,7 +12,7 @@ use Rattle.pen.proofs.rounding.rounded.Goals as goal
 
 module _ (c : Start) where
   facts : Rounds c.args.x
-  facts = rounds c.args.x (to_T (fits binary32 c.args.x) c.well_formed.0.1) c.requires.fact_1 c.requires.fact_2
+  facts = rounds c.args.x (to_T (fits binary32 c.args.x) c.well_formed.0.1) c.requires.is_finite c.requires.in_range
 
   abbrev whole : ℤ
   whole = to_signed 31 (whole_part c.args.x)

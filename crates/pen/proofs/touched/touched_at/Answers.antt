@@ -30,16 +30,16 @@ pub rounded-requires : goal.rounded-requires
 rounded-requires c = let p = c.args.point in
     let u = passed_point p (passed c) in
     record {
-      fact_1 = (both_finite p u.0).0;
-      fact_2 = (both_in p u.1).0;
+      is_finite = (both_finite p u.0).0;
+      in_range = (both_in p u.1).0;
     }
 
 pub rounded-requires-2 : goal.rounded-requires-2
 rounded-requires-2 c = let p = c.args.point in
     let u = passed_point p (passed (goal.at.rounded-requires-2 c).In_default) in
     record {
-      fact_1 = (both_finite p u.0).1;
-      fact_2 = (both_in p u.1).1;
+      is_finite = (both_finite p u.0).1;
+      in_range = (both_in p u.1).1;
     }
 
 pub returns : goal.returns

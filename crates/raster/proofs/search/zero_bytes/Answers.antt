@@ -18,12 +18,6 @@ overflow_sub-z c = omega arith
 pub overflow_sub-result : goal.overflow_sub-result
 overflow_sub-result c = omega arith
 
-pub returns-then-z-a-lt64 : goal.returns-then-z-a-lt64
-returns-then-z-a-lt64 c = (omega arith, λ i l m. c.any_bits.ensures c.if-any_bits-eq0.true i l (omega arith))
-
-pub returns-else-z-a-lt64 : goal.returns-else-z-a-lt64
-returns-else-z-a-lt64 c = (omega arith, c.any_bits.ensures c.if-any_bits-eq0.true)
-
 pub bounds-s-a : goal.bounds-s-a
 bounds-s-a c = omega arith
 
