@@ -1,6 +1,7 @@
 #!/usr/bin/env python3
 """Brings the names of this repository's definitions and lemmas to today's spelling: words in snake case, a dash only between two
-names, and _lem after a lemma that would have a definition's name. respell.tsv, beside this file, lists each old and new name.
+names, and _lem after a lemma that would have a definition's name. respell.tsv, beside this file, lists the old and new names; the names
+that port.py respells by itself are not in it.
 
 usage: python3 tools/respell.py, at the top of the repository, once, after port.py of the Rattle kit
 

@@ -19,18 +19,10 @@ module _ (c : Start) where
 
 pub returns-in-Refused : goal.returns-in-Refused
 returns-in-Refused c = let s = (goal.at.returns-in-Refused c).Start in
-    let a = c.args in record {
-      answered = (frames_refused a.ends a.window a.list.now a.bands.now a.painted.now a.banded.now c.in-Refused.refusal
-          (refused_by c.check_frames-check.result (number s) c.check_frames-check.ensures c.in-Refused.refusal c.in-Refused.is)).0;
-      list_after = (frames_refused a.ends a.window a.list.now a.bands.now a.painted.now a.banded.now c.in-Refused.refusal
-          (refused_by c.check_frames-check.result (number s) c.check_frames-check.ensures c.in-Refused.refusal c.in-Refused.is)).1.0;
-      painted_after = (frames_refused a.ends a.window a.list.now a.bands.now a.painted.now a.banded.now c.in-Refused.refusal
-          (refused_by c.check_frames-check.result (number s) c.check_frames-check.ensures c.in-Refused.refusal c.in-Refused.is)).1.1.0;
-      banded_after = (frames_refused a.ends a.window a.list.now a.bands.now a.painted.now a.banded.now c.in-Refused.refusal
-          (refused_by c.check_frames-check.result (number s) c.check_frames-check.ensures c.in-Refused.refusal c.in-Refused.is)).1.1.1.0;
-      equal_raster = (frames_refused a.ends a.window a.list.now a.bands.now a.painted.now a.banded.now c.in-Refused.refusal
-          (refused_by c.check_frames-check.result (number s) c.check_frames-check.ensures c.in-Refused.refusal c.in-Refused.is)).1.1.1.1;
-    }
+    let a = c.args in
+    let facts = frames_refused a.ends a.window a.list.now a.bands.now a.painted.now a.banded.now c.in-Refused.refusal
+    (refused_by c.check_frames-check.result (number s) c.check_frames-check.ensures c.in-Refused.refusal c.in-Refused.is) in
+    record { answered = facts.0; list_after = facts.1.0; painted_after = facts.1.1.0; banded_after = facts.1.1.1.0; equal_raster = facts.1.1.1.1 }
 
 -- the frames meet no condition
 module _ (c : In_default) where
@@ -52,35 +44,15 @@ pub returns-in-Runs : goal.returns-in-Runs
 returns-in-Runs c = let l = c.in-Runs.listing in
     let told = (goal.at.returns-in-Runs c).In_default in
     let a = c.args in
-    let bytes : Bytes a.painted.now = λ i _. (c.slice_known-1.given i).fits in record {
-      answered = (both_drawn a.ends a.window a.list.now a.bands.now a.painted.now a.banded.now (passed told)
-          (listing_met a.ends a.list.now c.list_runs.result c.list_runs.ensures.answered l c.in-Runs.is) bytes _ _ _ c.draw_listed.result c.draw_listed.ensures.answered
-          c.list_runs.ensures.list_after c.draw_listed.ensures.painted_after c.draw_listed.ensures.banded_after).0;
-      list_after = (both_drawn a.ends a.window a.list.now a.bands.now a.painted.now a.banded.now (passed told)
-          (listing_met a.ends a.list.now c.list_runs.result c.list_runs.ensures.answered l c.in-Runs.is) bytes _ _ _ c.draw_listed.result c.draw_listed.ensures.answered
-          c.list_runs.ensures.list_after c.draw_listed.ensures.painted_after c.draw_listed.ensures.banded_after).1.0;
-      painted_after = (both_drawn a.ends a.window a.list.now a.bands.now a.painted.now a.banded.now (passed told)
-          (listing_met a.ends a.list.now c.list_runs.result c.list_runs.ensures.answered l c.in-Runs.is) bytes _ _ _ c.draw_listed.result c.draw_listed.ensures.answered
-          c.list_runs.ensures.list_after c.draw_listed.ensures.painted_after c.draw_listed.ensures.banded_after).1.1.0;
-      banded_after = (both_drawn a.ends a.window a.list.now a.bands.now a.painted.now a.banded.now (passed told)
-          (listing_met a.ends a.list.now c.list_runs.result c.list_runs.ensures.answered l c.in-Runs.is) bytes _ _ _ c.draw_listed.result c.draw_listed.ensures.answered
-          c.list_runs.ensures.list_after c.draw_listed.ensures.painted_after c.draw_listed.ensures.banded_after).1.1.1.0;
-      equal_raster = (both_drawn a.ends a.window a.list.now a.bands.now a.painted.now a.banded.now (passed told)
-          (listing_met a.ends a.list.now c.list_runs.result c.list_runs.ensures.answered l c.in-Runs.is) bytes _ _ _ c.draw_listed.result c.draw_listed.ensures.answered
-          c.list_runs.ensures.list_after c.draw_listed.ensures.painted_after c.draw_listed.ensures.banded_after).1.1.1.1;
-    }
+    let bytes : Bytes a.painted.now = λ i _. (c.slice_known-1.given i).fits in
+    let facts = both_drawn a.ends a.window a.list.now a.bands.now a.painted.now a.banded.now (passed told)
+    (listing_met a.ends a.list.now c.list_runs.result c.list_runs.ensures.answered l c.in-Runs.is) bytes _ _ _ c.draw_listed.result c.draw_listed.ensures.answered
+    c.list_runs.ensures.list_after c.draw_listed.ensures.painted_after c.draw_listed.ensures.banded_after in
+    record { answered = facts.0; list_after = facts.1.0; painted_after = facts.1.1.0; banded_after = facts.1.1.1.0; equal_raster = facts.1.1.1.1 }
 
 pub returns-in-Refused-list_runs : goal.returns-in-Refused-list_runs
 returns-in-Refused-list_runs c = let told = (goal.at.returns-in-Refused-list_runs c).In_default in
-    let a = c.args in record {
-      answered = (lister_refused a.ends a.window a.list.now a.bands.now a.painted.now a.banded.now c.in-Refused-list_runs.refusal (passed told)
-          (sym (ap listed c.in-Refused-list_runs.is) ∙ c.list_runs.ensures.answered) _ c.list_runs.ensures.list_after).0;
-      list_after = (lister_refused a.ends a.window a.list.now a.bands.now a.painted.now a.banded.now c.in-Refused-list_runs.refusal (passed told)
-          (sym (ap listed c.in-Refused-list_runs.is) ∙ c.list_runs.ensures.answered) _ c.list_runs.ensures.list_after).1.0;
-      painted_after = (lister_refused a.ends a.window a.list.now a.bands.now a.painted.now a.banded.now c.in-Refused-list_runs.refusal (passed told)
-          (sym (ap listed c.in-Refused-list_runs.is) ∙ c.list_runs.ensures.answered) _ c.list_runs.ensures.list_after).1.1.0;
-      banded_after = (lister_refused a.ends a.window a.list.now a.bands.now a.painted.now a.banded.now c.in-Refused-list_runs.refusal (passed told)
-          (sym (ap listed c.in-Refused-list_runs.is) ∙ c.list_runs.ensures.answered) _ c.list_runs.ensures.list_after).1.1.1.0;
-      equal_raster = (lister_refused a.ends a.window a.list.now a.bands.now a.painted.now a.banded.now c.in-Refused-list_runs.refusal (passed told)
-          (sym (ap listed c.in-Refused-list_runs.is) ∙ c.list_runs.ensures.answered) _ c.list_runs.ensures.list_after).1.1.1.1;
-    }
+    let a = c.args in
+    let facts = lister_refused a.ends a.window a.list.now a.bands.now a.painted.now a.banded.now c.in-Refused-list_runs.refusal (passed told)
+    (sym (ap listed c.in-Refused-list_runs.is) ∙ c.list_runs.ensures.answered) _ c.list_runs.ensures.list_after in
+    record { answered = facts.0; list_after = facts.1.0; painted_after = facts.1.1.0; banded_after = facts.1.1.1.0; equal_raster = facts.1.1.1.1 }

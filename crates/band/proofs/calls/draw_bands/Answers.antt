@@ -53,7 +53,6 @@ shape_of-raster c = let a = c.args in
     ap length c.loop-k.invariant.1.raster_is ∙ bands_length a.ends a.window a.raster.now _
 
 pub returns : goal.returns
-returns c = let a = c.args in record {
-  value = (called_all a.ends a.window a.raster.now a.bands.now _ _ _ c.loop-k.k c.loop-k.invariant.1 (omega arith)).0;
-  raster_after = (called_all a.ends a.window a.raster.now a.bands.now _ _ _ c.loop-k.k c.loop-k.invariant.1 (omega arith)).1;
-}
+returns c = let a = c.args in
+    let facts = called_all a.ends a.window a.raster.now a.bands.now _ _ _ c.loop-k.k c.loop-k.invariant.1 (omega arith) in
+    record { value = facts.0; raster_after = facts.1 }

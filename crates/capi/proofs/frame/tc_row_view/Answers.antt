@@ -8,7 +8,6 @@ overflow_mul-result c = let a = c.args in
     record { fits = omega (arith, place_fits a.window a.raster.now a.row c.row_view-view.result.now c.row_view-view.ensures (λ z. omega arith)) }
 
 pub returns : goal.returns
-returns c = let a = c.args in record {
-  value = (view_given a.window a.raster.now a.row c.row_view-view.result.now c.row_view-view.ensures (λ z. omega arith)).0;
-  view = (view_given a.window a.raster.now a.row c.row_view-view.result.now c.row_view-view.ensures (λ z. omega arith)).1;
-}
+returns c = let a = c.args in
+    let facts = view_given a.window a.raster.now a.row c.row_view-view.result.now c.row_view-view.ensures (λ z. omega arith) in
+    record { value = facts.0; view = facts.1 }

@@ -14,12 +14,10 @@ use Rattle.line_draw.proofs.draw.draw.Goals.{After-visible_steps-steps, In_defau
 use Rattle.line_draw.proofs.draw.draw.Goals as goal
 
 pub returns-in-Refused : goal.returns-in-Refused
-returns-in-Refused c = let a = c.args in record {
-  answered = (drawn_refused a.ends a.window a.raster.now c.in-Refused.refusal
-      (refused_by c.check_line-check.result (number a.ends a.window a.raster.now) c.check_line-check.ensures c.in-Refused.refusal c.in-Refused.is)).0;
-  raster_after = (drawn_refused a.ends a.window a.raster.now c.in-Refused.refusal
-      (refused_by c.check_line-check.result (number a.ends a.window a.raster.now) c.check_line-check.ensures c.in-Refused.refusal c.in-Refused.is)).1;
-}
+returns-in-Refused c = let a = c.args in
+    let facts = drawn_refused a.ends a.window a.raster.now c.in-Refused.refusal
+    (refused_by c.check_line-check.result (number a.ends a.window a.raster.now) c.check_line-check.ensures c.in-Refused.refusal c.in-Refused.is) in
+    record { answered = facts.0; raster_after = facts.1 }
 
 -- no condition is met
 module _ (c : In_default) where
@@ -46,12 +44,10 @@ module _ (c : After-visible_steps-steps) where
   visible = rw c.line_of-line.ensures.0 at c.visible_steps-steps.ensures
 
 pub returns-then-end-from : goal.returns-then-end-from
-returns-then-end-from c = let s = entry (goal.at.returns-then-end-from c).In_default in record {
-  answered = (drawn_unseen s.args.ends s.args.window s.args.raster.now (within (goal.at.returns-then-end-from c).In_default) _ (visible (goal.at.returns-then-end-from c).After-visible_steps-steps)
-      (λ i _. (c.type_inv.raster i).fits) c.if-end-from.true).0;
-  raster_after = (drawn_unseen s.args.ends s.args.window s.args.raster.now (within (goal.at.returns-then-end-from c).In_default) _ (visible (goal.at.returns-then-end-from c).After-visible_steps-steps)
-      (λ i _. (c.type_inv.raster i).fits) c.if-end-from.true).1;
-}
+returns-then-end-from c = let s = entry (goal.at.returns-then-end-from c).In_default in
+    let facts = drawn_unseen s.args.ends s.args.window s.args.raster.now (within (goal.at.returns-then-end-from c).In_default) _ (visible (goal.at.returns-then-end-from c).After-visible_steps-steps)
+    (λ i _. (c.type_inv.raster i).fits) c.if-end-from.true in
+    record { answered = facts.0; raster_after = facts.1 }
 
 pub walk_by-fresh-requires : goal.walk_by-fresh-requires
 walk_by-fresh-requires c = let s = entry (goal.at.walk_by-fresh-requires c).In_default in (

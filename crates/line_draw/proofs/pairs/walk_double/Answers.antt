@@ -73,10 +73,9 @@ module _ (c : After-put_bit-fresh) where
 
 pub returns-then-from-end : goal.returns-then-from-end
 returns-then-from-end c = let p = (goal.at.returns-then-from-end c).After-put_bit-fresh in
-    let a = single p in record {
-      raster_after = (marked_end (framed a) (entry a).args.end (one p) c.if-from-end.true).0;
-      bits_grow = (marked_end (framed a) (entry a).args.end (one p) c.if-from-end.true).1;
-    }
+    let a = single p in
+    let facts = marked_end (framed a) (entry a).args.end (one p) c.if-from-end.true in
+    record { raster_after = facts.0; bits_grow = facts.1 }
 
 more : (c : Else-from-end) → let s = entry (single (goal.at.Else-from-end c).After-put_bit-fresh) in s.args.from + 2 ≤ s.args.end
 more c = let s = entry (single (goal.at.Else-from-end c).After-put_bit-fresh) in two s.args.from s.args.end s.requires.2.some c.if-from-end.false
@@ -121,7 +120,6 @@ overflow_add-result c = let small = raster_max _ _ (framed (single (put (goal.at
     record { fits = omega (arith, new_most _ _ _ (ap length (all (goal.at.overflow_add-result c).After-raster-3-1).0 ∙ plus-length _ _ _) small (all (goal.at.overflow_add-result c).After-raster-3-1).1) }
 
 pub returns : goal.returns
-returns c = record {
-  raster_after = (all (goal.at.returns c).After-raster-3-1).0;
-  bits_grow = (all (goal.at.returns c).After-raster-3-1).1;
-}
+returns c =
+    let facts = all (goal.at.returns c).After-raster-3-1 in
+    record { raster_after = facts.0; bits_grow = facts.1 }

@@ -174,10 +174,9 @@ shape_of-raster-then-i-end c = let f = (goal.at.shape_of-raster-then-i-end c).Af
 
 pub returns-then-i-end : goal.returns-then-i-end
 returns-then-i-end c = let f = (goal.at.returns-then-i-end c).After-put_bit-fresh-then-i-end in
-    let a = last (third f) in record {
-      raster_after = (marked_end (framed a) (entry a).args.end (both f) (omega (arith, past (third f), c.if-i-end.true))).0;
-      bits_grow = (marked_end (framed a) (entry a).args.end (both f) (omega (arith, past (third f), c.if-i-end.true))).1;
-    }
+    let a = last (third f) in
+    let facts = marked_end (framed a) (entry a).args.end (both f) (omega (arith, past (third f), c.if-i-end.true)) in
+    record { raster_after = facts.0; bits_grow = facts.1 }
 
 -- one step was left
 one : (c : After-put_bit-fresh-2) → Done (last c) c.put_bit-fresh-2.new.raster ((last c).loop-i.fresh + c.put_bit-fresh-2.result) ((last c).loop-i.i + 1)
@@ -188,7 +187,6 @@ shape_of-raster-else-i-end c = let p = (goal.at.shape_of-raster-else-i-end c).Af
     marked-length (framed (last p)) (one p)
 
 pub returns-else-i-end : goal.returns-else-i-end
-returns-else-i-end c = let p = (goal.at.returns-else-i-end c).After-put_bit-fresh-2 in record {
-  raster_after = (marked_end (framed (last p)) (entry (last p)).args.end (one p) (omega (arith, (last p).loop-i.invariant.0, c.if-i-end.false))).0;
-  bits_grow = (marked_end (framed (last p)) (entry (last p)).args.end (one p) (omega (arith, (last p).loop-i.invariant.0, c.if-i-end.false))).1;
-}
+returns-else-i-end c = let p = (goal.at.returns-else-i-end c).After-put_bit-fresh-2 in
+    let facts = marked_end (framed (last p)) (entry (last p)).args.end (one p) (omega (arith, (last p).loop-i.invariant.0, c.if-i-end.false)) in
+    record { raster_after = facts.0; bits_grow = facts.1 }

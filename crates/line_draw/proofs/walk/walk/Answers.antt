@@ -51,10 +51,9 @@ pub shape_of-raster-then-i-end : goal.shape_of-raster-then-i-end
 shape_of-raster-then-i-end c = marked-length (frame _ _ (s (at (goal.at.shape_of-raster-then-i-end c).After-raster-1)).requires.1) (marked (goal.at.shape_of-raster-then-i-end c).After-raster-1)
 
 pub returns-then-i-end : goal.returns-then-i-end
-returns-then-i-end c = record {
-  raster_after = (marked_end (frame _ _ (s (at (goal.at.returns-then-i-end c).After-raster-1)).requires.1) _ (marked (goal.at.returns-then-i-end c).After-raster-1) c.if-i-end.true).0;
-  bits_grow = (marked_end (frame _ _ (s (at (goal.at.returns-then-i-end c).After-raster-1)).requires.1) _ (marked (goal.at.returns-then-i-end c).After-raster-1) c.if-i-end.true).1;
-}
+returns-then-i-end c =
+    let facts = marked_end (frame _ _ (s (at (goal.at.returns-then-i-end c).After-raster-1)).requires.1) _ (marked (goal.at.returns-then-i-end c).After-raster-1) c.if-i-end.true in
+    record { raster_after = facts.0; bits_grow = facts.1 }
 
 pub next-at-requires : goal.next-at-requires
 next-at-requires c = let m = at (goal.at.next-at-requires c).After-raster-1 in

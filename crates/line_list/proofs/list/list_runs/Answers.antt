@@ -17,12 +17,10 @@ use Rattle.line_list.proofs.list.list_runs.Goals.{After-line_of-line, In_default
 use Rattle.line_list.proofs.list.list_runs.Goals as goal
 
 pub returns-in-Refused : goal.returns-in-Refused
-returns-in-Refused c = let a = c.args in record {
-  answered = (listed_refused a.ends a.list.now c.in-Refused.refusal
-      (refused_by c.check-check.result (first_met (ends_conditions a.ends)) c.check-check.ensures c.in-Refused.refusal c.in-Refused.is)).0;
-  list_after = (listed_refused a.ends a.list.now c.in-Refused.refusal
-      (refused_by c.check-check.result (first_met (ends_conditions a.ends)) c.check-check.ensures c.in-Refused.refusal c.in-Refused.is)).1;
-}
+returns-in-Refused c = let a = c.args in
+    let facts = listed_refused a.ends a.list.now c.in-Refused.refusal
+    (refused_by c.check-check.result (first_met (ends_conditions a.ends)) c.check-check.ensures c.in-Refused.refusal c.in-Refused.is) in
+    record { answered = facts.0; list_after = facts.1 }
 
 -- the ends are within the limits
 module _ (c : In_default) where
@@ -56,10 +54,9 @@ overflow_cast-runs c = omega (arith, traced_numbers c.line_of-line.result c.line
 
 pub returns-then-list-runs : goal.returns-then-list-runs
 returns-then-list-runs c = let line = (goal.at.returns-then-list-runs c).After-line_of-line in
-    let a = (entry (goal.at.returns-then-list-runs c).In_default).args in record {
-      answered = (listed-short a.ends a.list.now (within (goal.at.returns-then-list-runs c).In_default) (omega (arith, c.if-list-runs.true, short_is line))).0;
-      list_after = (listed-short a.ends a.list.now (within (goal.at.returns-then-list-runs c).In_default) (omega (arith, c.if-list-runs.true, short_is line))).1;
-    }
+    let a = (entry (goal.at.returns-then-list-runs c).In_default).args in
+    let facts = listed-short a.ends a.list.now (within (goal.at.returns-then-list-runs c).In_default) (omega (arith, c.if-list-runs.true, short_is line)) in
+    record { answered = facts.0; list_after = facts.1 }
 
 pub returns : goal.returns
 returns c =

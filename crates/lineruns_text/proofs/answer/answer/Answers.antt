@@ -17,17 +17,13 @@ pub write_refused-requires : goal.write_refused-requires
 write_refused-requires c = omega (arith, refused_line-length 9 (omega arith))
 
 pub returns-in_default : goal.returns-in_default
-returns-in_default c = let a = c.args in record {
-  value = (finished a.input.now _ (printed_bad a.input.now (sym c.read_line.ensures ∙ ap read_line c.in_default.is)) c.if-output-lt110000.false
-      c.write_refused.ensures).0;
-  output_after = (finished a.input.now _ (printed_bad a.input.now (sym c.read_line.ensures ∙ ap read_line c.in_default.is)) c.if-output-lt110000.false
-      c.write_refused.ensures).1;
-}
+returns-in_default c = let a = c.args in
+    let facts = finished a.input.now _ (printed_bad a.input.now (sym c.read_line.ensures ∙ ap read_line c.in_default.is)) c.if-output-lt110000.false
+    c.write_refused.ensures in
+    record { value = facts.0; output_after = facts.1 }
 
 pub returns : goal.returns
-returns c = let a = c.args in record {
-  value = (finished a.input.now _ (printed_line a.input.now c.in-Line.ends (sym c.read_line.ensures ∙ ap read_line c.in-Line.is)) c.if-output-lt110000.false
-      c.answer_line.ensures).0;
-  output_after = (finished a.input.now _ (printed_line a.input.now c.in-Line.ends (sym c.read_line.ensures ∙ ap read_line c.in-Line.is)) c.if-output-lt110000.false
-      c.answer_line.ensures).1;
-}
+returns c = let a = c.args in
+    let facts = finished a.input.now _ (printed_line a.input.now c.in-Line.ends (sym c.read_line.ensures ∙ ap read_line c.in-Line.is)) c.if-output-lt110000.false
+    c.answer_line.ensures in
+    record { value = facts.0; output_after = facts.1 }

@@ -18,12 +18,10 @@ module _ (s : Start) where
 
 pub returns-in-Refused : goal.returns-in-Refused
 returns-in-Refused c = let s = (goal.at.returns-in-Refused c).Start in
-    let a = c.args in record {
-      answered = (rows_refused a.file.now a.frame a.window a.raster.now a.first a.rows c.in-Refused.refusal
-          (refused_by c.check_rows-check.result (number s) c.check_rows-check.ensures c.in-Refused.refusal c.in-Refused.is)).0;
-      raster_after = (rows_refused a.file.now a.frame a.window a.raster.now a.first a.rows c.in-Refused.refusal
-          (refused_by c.check_rows-check.result (number s) c.check_rows-check.ensures c.in-Refused.refusal c.in-Refused.is)).1;
-    }
+    let a = c.args in
+    let facts = rows_refused a.file.now a.frame a.window a.raster.now a.first a.rows c.in-Refused.refusal
+    (refused_by c.check_rows-check.result (number s) c.check_rows-check.ensures c.in-Refused.refusal c.in-Refused.is) in
+    record { answered = facts.0; raster_after = facts.1 }
 
 -- the window, the raster and the band are passed
 module _ (c : In_default) where
@@ -37,25 +35,19 @@ draw_part-requires c = let a = c.args in
     (w.0, w.1, w.2, passed (goal.at.draw_part-requires c).In_default)
 
 pub returns-in-Refused-found : goal.returns-in-Refused-found
-returns-in-Refused-found c = let a = c.args in record {
-  answered = (file_refused a.file.now a.frame a.window a.raster.now a.first a.rows (passed (goal.at.returns-in-Refused-found c).In_default) c.in-Refused-found.refusal
-      (sym (ap found_frame c.in-Refused-found.is) ∙ c.find_frame-found.ensures)).0;
-  raster_after = (file_refused a.file.now a.frame a.window a.raster.now a.first a.rows (passed (goal.at.returns-in-Refused-found c).In_default) c.in-Refused-found.refusal
-      (sym (ap found_frame c.in-Refused-found.is) ∙ c.find_frame-found.ensures)).1;
-}
+returns-in-Refused-found c = let a = c.args in
+    let facts = file_refused a.file.now a.frame a.window a.raster.now a.first a.rows (passed (goal.at.returns-in-Refused-found c).In_default) c.in-Refused-found.refusal
+    (sym (ap found_frame c.in-Refused-found.is) ∙ c.find_frame-found.ensures) in
+    record { answered = facts.0; raster_after = facts.1 }
 
 pub returns-in-Nothing : goal.returns-in-Nothing
-returns-in-Nothing c = let a = c.args in record {
-  answered = (no_frame a.file.now a.frame a.window a.raster.now a.first a.rows (passed (goal.at.returns-in-Nothing c).In_default)
-      (sym (ap found_frame c.in-Nothing.is) ∙ c.find_frame-found.ensures)).0;
-  raster_after = (no_frame a.file.now a.frame a.window a.raster.now a.first a.rows (passed (goal.at.returns-in-Nothing c).In_default)
-      (sym (ap found_frame c.in-Nothing.is) ∙ c.find_frame-found.ensures)).1;
-}
+returns-in-Nothing c = let a = c.args in
+    let facts = no_frame a.file.now a.frame a.window a.raster.now a.first a.rows (passed (goal.at.returns-in-Nothing c).In_default)
+    (sym (ap found_frame c.in-Nothing.is) ∙ c.find_frame-found.ensures) in
+    record { answered = facts.0; raster_after = facts.1 }
 
 pub returns-in-At : goal.returns-in-At
-returns-in-At c = let a = c.args in record {
-  answered = (frame_drawn a.file.now a.frame a.window a.raster.now a.first a.rows (passed (goal.at.returns-in-At c).In_default) c.in-At.part
-      (sym (ap found_frame c.in-At.is) ∙ c.find_frame-found.ensures) c.draw_part.result _ c.draw_part.ensures.value c.draw_part.ensures.raster_after).0;
-  raster_after = (frame_drawn a.file.now a.frame a.window a.raster.now a.first a.rows (passed (goal.at.returns-in-At c).In_default) c.in-At.part
-      (sym (ap found_frame c.in-At.is) ∙ c.find_frame-found.ensures) c.draw_part.result _ c.draw_part.ensures.value c.draw_part.ensures.raster_after).1;
-}
+returns-in-At c = let a = c.args in
+    let facts = frame_drawn a.file.now a.frame a.window a.raster.now a.first a.rows (passed (goal.at.returns-in-At c).In_default) c.in-At.part
+    (sym (ap found_frame c.in-At.is) ∙ c.find_frame-found.ensures) c.draw_part.result _ c.draw_part.ensures.value c.draw_part.ensures.raster_after in
+    record { answered = facts.0; raster_after = facts.1 }

@@ -13,7 +13,6 @@ draw_rows-requires c = let a = c.args in (
 )
 
 pub returns : goal.returns
-returns c = let a = c.args in record {
-  value = (lent_drawn a.file.now a.part a.window a.first a.rows a.raster.now c.draw_rows.result _ c.draw_rows.ensures.value c.draw_rows.ensures.raster_after).0;
-  raster_after = (lent_drawn a.file.now a.part a.window a.first a.rows a.raster.now c.draw_rows.result _ c.draw_rows.ensures.value c.draw_rows.ensures.raster_after).1;
-}
+returns c = let a = c.args in
+    let facts = lent_drawn a.file.now a.part a.window a.first a.rows a.raster.now c.draw_rows.result _ c.draw_rows.ensures.value c.draw_rows.ensures.raster_after in
+    record { value = facts.0; raster_after = facts.1 }

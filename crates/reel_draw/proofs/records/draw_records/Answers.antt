@@ -54,9 +54,7 @@ shape_of-raster c = let a = c.args in
     drew_length (coordinates a.bytes.now) a.window a.raster.now _ _ _ _ c.loop-k.invariant.1
 
 pub returns : goal.returns
-returns c = let a = c.args in record {
-  value = (drew_all (coordinates a.bytes.now) a.window a.raster.now c.requires.2 _ _ _ _ c.loop-k.invariant.1
-      (omega (arith, records_in_bytes a.bytes.now))).0;
-  raster_after = (drew_all (coordinates a.bytes.now) a.window a.raster.now c.requires.2 _ _ _ _ c.loop-k.invariant.1
-      (omega (arith, records_in_bytes a.bytes.now))).1;
-}
+returns c = let a = c.args in
+    let facts = drew_all (coordinates a.bytes.now) a.window a.raster.now c.requires.2 _ _ _ _ c.loop-k.invariant.1
+    (omega (arith, records_in_bytes a.bytes.now)) in
+    record { value = facts.0; raster_after = facts.1 }

@@ -29,12 +29,10 @@ module _ (s : Start) where
 pub returns-in-Refused : goal.returns-in-Refused
 returns-in-Refused c = let s = (goal.at.returns-in-Refused c).Start in
     let a = c.args in
-    let n = length a.raster.now in record {
-      answered = (frame_refused a.window n a.list.now a.count (bad s) (total s) (work s) a.raster.now c.in-Refused.refusal
-          (refused_by c.check_frame-frame.result (first_met (frame_conditions a.window n)) c.check_frame-frame.ensures c.in-Refused.refusal c.in-Refused.is)).0;
-      raster_after = (frame_refused a.window n a.list.now a.count (bad s) (total s) (work s) a.raster.now c.in-Refused.refusal
-          (refused_by c.check_frame-frame.result (first_met (frame_conditions a.window n)) c.check_frame-frame.ensures c.in-Refused.refusal c.in-Refused.is)).1;
-    }
+    let n = length a.raster.now in
+    let facts = frame_refused a.window n a.list.now a.count (bad s) (total s) (work s) a.raster.now c.in-Refused.refusal
+    (refused_by c.check_frame-frame.result (first_met (frame_conditions a.window n)) c.check_frame-frame.ensures c.in-Refused.refusal c.in-Refused.is) in
+    record { answered = facts.0; raster_after = facts.1 }
 
 module _ (c : In_default) where
   abbrev start : Start
@@ -45,19 +43,16 @@ module _ (c : In_default) where
 
 pub returns-then-list-count : goal.returns-then-list-count
 returns-then-list-count c = let s = start (goal.at.returns-then-list-count c).In_default in
-    let a = s.args in record {
-      answered = (count_refused a.window (length a.raster.now) a.list.now a.count (bad s) (total s) (work s) a.raster.now (within (goal.at.returns-then-list-count c).In_default) c.if-list-count.true).0;
-      raster_after = (count_refused a.window (length a.raster.now) a.list.now a.count (bad s) (total s) (work s) a.raster.now (within (goal.at.returns-then-list-count c).In_default) c.if-list-count.true).1;
-    }
+    let a = s.args in
+    let facts = count_refused a.window (length a.raster.now) a.list.now a.count (bad s) (total s) (work s) a.raster.now (within (goal.at.returns-then-list-count c).In_default) c.if-list-count.true in
+    record { answered = facts.0; raster_after = facts.1 }
 
 pub returns-in-Refused-runs : goal.returns-in-Refused-runs
 returns-in-Refused-runs c = let s = start (goal.at.returns-in-Refused-runs c).In_default in
-    let a = s.args in record {
-      answered = (run_refused a.window (length a.raster.now) a.list.now a.count (bad s) (total s) (work s) a.raster.now (within (goal.at.returns-in-Refused-runs c).In_default)
-          c.if-list-count.false c.in-Refused-runs.refusal (sym c.check_runs-runs.ensures ∙ c.in-Refused-runs.is)).0;
-      raster_after = (run_refused a.window (length a.raster.now) a.list.now a.count (bad s) (total s) (work s) a.raster.now (within (goal.at.returns-in-Refused-runs c).In_default)
-          c.if-list-count.false c.in-Refused-runs.refusal (sym c.check_runs-runs.ensures ∙ c.in-Refused-runs.is)).1;
-    }
+    let a = s.args in
+    let facts = run_refused a.window (length a.raster.now) a.list.now a.count (bad s) (total s) (work s) a.raster.now (within (goal.at.returns-in-Refused-runs c).In_default)
+    c.if-list-count.false c.in-Refused-runs.refusal (sym c.check_runs-runs.ensures ∙ c.in-Refused-runs.is) in
+    record { answered = facts.0; raster_after = facts.1 }
 
 -- what is known after the second check
 module _ (c : In_default-runs) where
