@@ -1,8 +1,9 @@
 pub mod Limits
-pub mod Rows
+pub mod BandRows
 pub mod CallLaws
 pub mod EqualRaster
 pub mod BothLaws
 pub mod NewPixels
 pub mod Exchanged
 pub mod Nudge
+pub mod Pairs

@@ -3,6 +3,7 @@
 use Rattle.std.specs.Prelude.{ℕ, ◌+◌, Bool, ◌||◌, List, [], ◌∷◌, ◌++◌, length, ltb, eqb}
 use Rattle.refusal.specs.Refusal.{Answer, answer, unless_refused, first_met}
 use Rattle.raster.specs.Raster.{plus}
+use Rattle.raster.specs.Window.{frame_conditions}
 use Rattle.raster.specs.Band.{band_window, rows_of}
 use Rattle.raster.specs.Fresh.{fresh_count}
 use Rattle.raster.specs.Drawn.{marks}
@@ -15,6 +16,10 @@ use Rattle.line.specs.declared.ends.Ends.{Ends}
 -- 6: a band has no rows or ends below the window
 unfoldable pub band_out : Window → ℕ → ℕ → Bool
 band_out w first rows = eqb rows 0 || ltb w.height (first + rows)
+
+-- what refuses a window, a raster of n bytes and a band: 2, 3, 4, 6
+abbrev pub rows_conditions : Window → ℕ → ℕ → ℕ → List (ℕ × Bool)
+rows_conditions w n first rows = frame_conditions w n ++ ((6, band_out w first rows) ∷ [])
 
 -- what refuses a line, a window, a raster of n bytes and a band: 1, 2, 3, 4, 6
 abbrev pub band_conditions : Ends → Window → ℕ → ℕ → ℕ → List (ℕ × Bool)

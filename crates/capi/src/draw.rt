@@ -4,8 +4,9 @@ ghost use Rattle.line.specs.Drawing.{draw_answer, draw_after};
 ghost use Rattle.band.specs.Drawing.{band_answer, band_after};
 ghost use Rattle.capi.specs.Answers.{drawn_numbers};
 
-use crate::answers::{TcDrawn, drawn_numbers};
+use crate::answers::TcDrawn;
 use band::draw::draw_band;
+use band::rows::Band;
 use line::ends::Ends;
 use line_draw::draw::{draw_double, draw_single};
 use raster::window::Window;
@@ -17,7 +18,7 @@ pub extern "C" fn tc_draw_single(ends: Ends, window: Window, raster: &mut [u8]) 
     ensures value { result ≡ drawn_numbers (draw_answer ends window raster.old) }
     ensures raster_after { raster.new ≡ draw_after ends window raster.old }
 {
-    drawn_numbers(draw_single(ends, window, raster))
+    draw_single(ends, window, raster).into()
 }
 
 // The same by double steps, as `line_draw::draw::draw_double` does.
@@ -26,7 +27,7 @@ pub extern "C" fn tc_draw_double(ends: Ends, window: Window, raster: &mut [u8]) 
     ensures value { result ≡ drawn_numbers (draw_answer ends window raster.old) }
     ensures raster_after { raster.new ≡ draw_after ends window raster.old }
 {
-    drawn_numbers(draw_double(ends, window, raster))
+    draw_double(ends, window, raster).into()
 }
 
 // Marks the line's pixels in a band's rows alone, as `band::draw::draw_band` does.
@@ -41,5 +42,5 @@ pub extern "C" fn tc_draw_band(
     ensures value { result ≡ drawn_numbers (band_answer ends window raster.old first rows) }
     ensures raster_after { raster.new ≡ band_after ends window raster.old first rows }
 {
-    drawn_numbers(draw_band(ends, window, first, rows, raster))
+    draw_band(ends, window, Band { first, rows }, raster).into()
 }

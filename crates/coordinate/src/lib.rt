@@ -41,22 +41,15 @@ impl Coordinate {
     }
 }
 
-// How much `a` is above `b`, or 0.
-pub fn less(a: u32, b: u32) -> u32
-    ensures { result ≡ a - b }
-{
-    if b <= a { a - b } else { 0 }
-}
-
 // A pixel of the frame by its column and row. Columns grow rightwards, rows downwards.
-#[derive(Clone, Copy)]
+#[derive(Clone, Copy, PartialEq, Eq)]
 pub struct Pixel {
     pub column: i32,
     pub row: i32,
 }
 
 // A direction of the frame: along its columns' numbers, x, or along its rows', y.
-#[derive(Clone, Copy)]
+#[derive(Clone, Copy, PartialEq, Eq)]
 pub enum Axis {
     X,
     Y,

@@ -5,7 +5,6 @@ use mathlib.Core.Logic.{⊎_elim}
 use mathlib.Core.Bool.{Bool, true, false, ◌||◌, or-true, or-false, or_assoc}
 use native.Mathlib.Omega.{arith}
 use native.Mathlib.Nat.{add-zero, add-suc, eq-or-lt_of_le, le_of_suc-le-suc}
-use native.Mathlib.Numerals.{add-one}
 use Rattle.counting.specs.Count.{any}
 use Rattle.counting.proofs.Boolean.{bool_iff, clash, never, or_left}
 
@@ -58,15 +57,6 @@ any_range n a b f lb h =
     let w = h r.0 r.1 r.2 in
     let q : a + (r.0 - a) ≡ r.0 = omega (arith, w.0) in
     any_make (b - a) (λ j. f (a + j)) (r.0 - a) (omega (arith, w.0, w.1)) (ap f q ∙ r.2))
-
--- a test that holds at no number so far, as a loop that looks at one number after the other has it
-pub any-zero : (f : ℕ → Bool) → any 0 f ≡ false
-unfolding any
-any-zero f = refl
-
-pub any_more : (n : ℕ) (f : ℕ → Bool) → any n f ≡ false → f n ≡ false → any (n + 1) f ≡ false
-unfolding any
-any_more n f e q = rw (add-one n, e, q)
 
 -- and then at none of them
 pub none_at : (n : ℕ) (f : ℕ → Bool) → any n f ≡ false → (i : ℕ) → i < n → f i ≡ false

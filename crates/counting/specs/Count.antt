@@ -1,6 +1,5 @@
 -- Counting over the numbers below n. Cited wherever steps, runs, columns or rows are counted. Assumes nothing.
-use Rattle.std.specs.Prelude.{ℕ, zero, suc, ◌+◌, Bool, true, false, ◌||◌, cond, List, [], ◌∷◌}
-use Rattle.std.proofs.Math.Option.{Option, none, some}
+use Rattle.std.specs.Prelude.{ℕ, zero, suc, ◌+◌, Bool, true, false, ◌||◌, cond, List, [], ◌∷◌, Option, None, Some}
 
 -- 1 for true, 0 for false
 abbrev pub one : Bool → ℕ
@@ -24,8 +23,8 @@ sum (suc n) f = sum n f + f n
 
 -- the first number below n at which f holds, if there is one
 unfoldable pub first : ℕ → (ℕ → Bool) → Option ℕ
-first zero f = none
-first (suc n) f = cond (any n f) (first n f) (cond (f n) (some n) none)
+first zero f = None
+first (suc n) f = cond (any n f) (first n f) (cond (f n) (Some n) None)
 
 -- f 0 to f (n − 1), in order
 unfoldable pub each : {A : Type 0} → ℕ → (ℕ → A) → List A

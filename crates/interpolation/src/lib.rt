@@ -6,6 +6,17 @@ ghost use Rattle.std.specs.Prelude.{◌≡◌, ◌+◌, ◌≤◌};
 ghost use Rattle.interpolation.specs.Interpolation.{m, rest, Rounding};
 ghost use Rattle.interpolation.specs.Runs.{run_first};
 
+// How a line slopes: L and S, and what its short distances are rounded by.
+#[derive(Clone, Copy)]
+pub struct Slope {
+    pub long: u32,
+    pub short: u32,
+    pub half: u32,
+    pub ghost long_most: { long ≤ 32767 },
+    pub ghost short_most: { short ≤ long },
+    pub ghost rounding: { Rounding half long },
+}
+
 // The short distance at a step, and the step's decision number: what the division leaves.
 #[derive(Clone, Copy)]
 pub struct ShortStep {
@@ -13,34 +24,35 @@ pub struct ShortStep {
     pub rest: u32,
 }
 
-// The short distance of step `i` and its decision number, of a line `long` by `short` with its halves rounded by `half`.
-pub fn short_at(half: u32, long: u32, short: u32, i: u32) -> ShortStep
-    requires { Rounding half long × (long ≤ 32767) × (short ≤ long) × (i ≤ long) }
-    ensures { (result.distance ≡ m half long short i) × (result.rest ≡ rest half long short i) }
-{
-    if long == 0 {
-        return ShortStep {
-            distance: 0,
-            rest: 0,
-        };
+impl Slope {
+    // The short distance of step `i` and its decision number.
+    pub fn short_at(self, i: u32) -> ShortStep
+        requires { i ≤ self.long }
+        ensures { (result.distance ≡ m self.half self.long self.short i) × (result.rest ≡ rest self.half self.long self.short i) }
+    {
+        if self.long == 0 {
+            return ShortStep {
+                distance: 0,
+                rest: 0,
+            };
+        }
+        let sum = 2 * i * self.short + self.half;
+        ShortStep {
+            distance: sum / (2 * self.long),
+            rest: sum % (2 * self.long),
+        }
     }
-    let sum = 2 * i * short + half;
-    ShortStep {
-        distance: sum / (2 * long),
-        rest: sum % (2 * long),
-    }
-}
 
-// The first step with a short distance of `k` or more, and the step after the last where there is none.
-pub fn first_step(half: u32, long: u32, short: u32, k: u32) -> u32
-    requires { Rounding half long × (long ≤ 32767) × (short ≤ long) }
-    ensures { result ≡ run_first half long short k }
-{
-    if k == 0 {
-        return 0;
+    // The first step with a short distance of `k` or more, and the step after the last where there is none.
+    pub fn first_step(self, k: u32) -> u32
+        ensures { result ≡ run_first self.half self.long self.short k }
+    {
+        if k == 0 {
+            return 0;
+        }
+        if self.short < k {
+            return self.long + 1;
+        }
+        (2 * k * self.long + 2 * self.short - 1 - self.half) / (2 * self.short)
     }
-    if short < k {
-        return long + 1;
-    }
-    (2 * k * long + 2 * short - 1 - half) / (2 * short)
 }

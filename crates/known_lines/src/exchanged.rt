@@ -6,59 +6,38 @@ use crate::print::{print_end, print_ends, print_marks};
 use crate::small::{BYTES, LIST, WINDOW, list_line};
 use line::ends::Ends;
 use line_draw::draw::{draw_double, draw_single};
-use raster::drawn::{Drawn, Marks};
+use raster::drawn::Marks;
+use refusal::Refusal;
 use std::io;
 
-// Lists a line, prints a text and its runs, and answers how many they are.
-fn print_list(rt: &impl Print, text: &str, ends: Ends, list: &mut [i32]) -> io::Result<u32> {
-    let runs = list_line(ends, list);
-    rt.print(text)?;
-    print_runs(rt, list, runs)?;
-    Ok(runs)
-}
-
 // Prints a drawer's counts and answers them. A refusal has counts of 0.
-fn print_drawn(rt: &impl Print, drawn: Drawn) -> io::Result<Marks> {
+fn print_drawn(rt: &impl Print, drawn: Result<Marks, Refusal>) -> io::Result<Marks> {
     match drawn {
-        Drawn::Marked(marks) => {
-            print_marks(rt, "; count ", marks)?;
+        Ok(marks) => {
+            rt.print("; ")?;
+            print_marks(rt, marks)?;
             Ok(marks)
         }
-        Drawn::Refused(_) => {
+        Err(_) => {
             rt.print("; refused")?;
             Ok(Marks { count: 0, fresh: 0 })
         }
     }
 }
 
-// Whether the runs of two lists are the same in reverse order.
-fn reverse(a: &[i32; LIST], a_runs: u32, b: &[i32; LIST], b_runs: u32) -> bool {
-    if a_runs != b_runs {
-        return false;
-    }
-    let runs = a_runs as usize;
-    if LIST / 3 < runs {
-        return false;
-    }
-    let mut i = 0;
-    while i < 3 * runs {
-        // The same number of the run that is as far from the last run as this one is from the first.
-        let other = 3 * (runs - 1 - i / 3) + i % 3;
-        if a[i] != b[other] {
-            return false;
-        }
-        i += 1;
-    }
-    true
+// Whether two lists have the same runs in reverse order.
+fn reverse(a: &[[i32; 3]], b: &[[i32; 3]]) -> bool {
+    a.len() == b.len() && a.iter().zip(b.iter().rev()).all(|(x, y)| x == y)
 }
 
 // Whether the line with its ends exchanged, drawn on the raster of the other, has as many pixels and none is new, so that
 // both have the same pixels; and whether all drawers draw each of the two alike.
 fn same_pixels(ends: Ends, first: Marks, back: Ends, second: Marks) -> bool {
-    if second.count != first.count || second.fresh != 0 {
-        return false;
-    }
-    alike(ends, WINDOW, 0) && alike(back, WINDOW, 0)
+    let same = Marks {
+        count: first.count,
+        fresh: 0,
+    };
+    second == same && alike(ends, WINDOW, None) && alike(back, WINDOW, None)
 }
 
 // Prints a line and the line with its ends exchanged, each listed, and drawn on the same raster.
@@ -73,15 +52,18 @@ fn show(rt: &impl Print, x0: i32, y0: i32, x1: i32, y1: i32) -> io::Result<()> {
     let mut raster = [0u8; BYTES];
     let mut a = [0i32; LIST];
     let mut b = [0i32; LIST];
-    print_ends(rt, "exchanged ", ends)?;
-    let a_runs = print_list(rt, ": runs", ends, &mut a)?;
+    let a_runs = list_line(ends, &mut a);
+    let b_runs = list_line(back, &mut b);
+    rt.print("exchanged ")?;
+    print_ends(rt, ends)?;
+    rt.print(": runs")?;
+    print_runs(rt, a_runs)?;
     let first = print_drawn(rt, draw_single(ends, WINDOW, &mut raster))?;
-    let b_runs = print_list(rt, "; back runs", back, &mut b)?;
+    rt.print("; back runs")?;
+    print_runs(rt, b_runs)?;
     let second = print_drawn(rt, draw_double(back, WINDOW, &mut raster))?;
-    let reversed = reverse(&a, a_runs, &b, b_runs);
-    let same = same_pixels(ends, first, back, second);
-    // `&` makes no branch, so there is less to prove.
-    print_end(rt, reversed & same)
+    let reversed = reverse(a_runs, b_runs);
+    print_end(rt, reversed && same_pixels(ends, first, back, second))
 }
 
 // Prints the lines.

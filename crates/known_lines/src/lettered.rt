@@ -1,39 +1,21 @@
 // Document 01's lettered lines: their axis and runs, and the raster where the document gives one.
 use crate::drawers::{ROOM, alike, bytes};
-use crate::print::{print_end, print_ends, print_marks, print_number, print_signed, print_window};
+use crate::print::{print_end, print_ends, print_marks, print_window};
 use crate::small::{LIST, WINDOW};
 use coordinate::Axis;
 use line::ends::Ends;
 use line_draw::draw::{draw_double, draw_single};
-use line_list::list::{Listed, list_runs};
-use raster::drawn::Drawn;
+use line_list::list::list_runs;
 use raster::window::Window;
 use std::io;
 
-// Prints the three numbers of a run, with a comma before all runs but the first.
-fn print_run(
-    rt: &impl Print,
-    first: bool,
-    across: i32,
-    lowest: i32,
-    pixels: i32,
-) -> io::Result<()> {
-    if !first {
-        rt.print(",")?;
-    }
-    print_signed(rt, " ", across)?;
-    print_signed(rt, " ", lowest)?;
-    print_signed(rt, " ", pixels)
-}
-
-// Prints a list's first runs, as many as the list has.
-pub fn print_runs(rt: &impl Print, list: &[i32], runs: u32) -> io::Result<()> {
-    let whole = list.len() / 3;
-    let mut k = 0;
-    while k < whole && k < runs as usize {
-        let i = 3 * k;
-        print_run(rt, k == 0, list[i], list[i + 1], list[i + 2])?;
-        k += 1;
+// Prints a list's runs, the three numbers of each, with a comma between two runs.
+pub fn print_runs(rt: &impl Print, runs: &[[i32; 3]]) -> io::Result<()> {
+    for (k, [across, lowest, pixels]) in runs.iter().enumerate() {
+        if 0 < k {
+            rt.print(",")?;
+        }
+        print!(rt; " {across} {lowest} {pixels}")?;
     }
     Ok(())
 }
@@ -41,25 +23,23 @@ pub fn print_runs(rt: &impl Print, list: &[i32], runs: u32) -> io::Result<()> {
 // Prints the axis and the runs that the lister gives.
 fn print_list(rt: &impl Print, ends: Ends) -> io::Result<()> {
     let mut list = [0i32; LIST];
-    match list_runs(ends, &mut list) {
-        Listed::Runs(listing) => {
-            let axis = listing.axis;
-            match axis {
-                Axis::X => rt.print(": axis x, runs")?,
-                Axis::Y => rt.print(": axis y, runs")?,
-            }
-            print_runs(rt, &list, listing.runs)
-        }
-        Listed::Refused(_) => rt.print(": refused"),
-    }
+    let Ok(listing) = list_runs(ends, &mut list) else {
+        return rt.print(": refused");
+    };
+    rt.print(match listing.axis {
+        Axis::X => ": axis x, runs",
+        Axis::Y => ": axis y, runs",
+    })?;
+    let (runs, _) = list.as_chunks::<3>();
+    print_runs(rt, runs.get(..listing.runs as usize).unwrap_or(&[]))
 }
 
 // Prints a line's letter, ends, axis and runs, and answers whether it is drawn alike in a window that holds it.
 fn print_line(rt: &impl Print, letter: char, ends: Ends) -> io::Result<bool> {
     print!(rt; "{letter}: ")?;
-    print_ends(rt, "", ends)?;
+    print_ends(rt, ends)?;
     print_list(rt, ends)?;
-    Ok(alike(ends, WINDOW, 0))
+    Ok(alike(ends, WINDOW, None))
 }
 
 // Prints a line that the document gives without a window.
@@ -69,64 +49,40 @@ fn show(rt: &impl Print, letter: char, x0: i32, y0: i32, x1: i32, y1: i32) -> io
     print_end(rt, whole)
 }
 
-// Prints the word `bytes`, then those of a raster, a blank before each.
-fn print_bytes(rt: &impl Print, raster: &[u8]) -> io::Result<()> {
-    rt.print("bytes")?;
-    let mut i = 0;
-    while i < raster.len() {
-        print_number(rt, " ", raster[i] as u64)?;
-        i += 1;
-    }
-    Ok(())
-}
-
-// Draws the line once more, by the double-step drawer, and prints how many pixels are new.
-fn print_again(rt: &impl Print, ends: Ends, window: Window, raster: &mut [u8]) -> io::Result<()> {
-    match draw_double(ends, window, raster) {
-        Drawn::Marked(marks) => print_number(rt, ", again ", marks.fresh),
-        Drawn::Refused(_) => rt.print("refused"),
-    }
-}
-
-// Draws the line by the single-step drawer on the raster that is lent, and prints the bytes and the counts; then once more.
+// Draws the line by the single-step drawer on the raster that is lent, and prints the bytes and the counts; then draws it once
+// more, by the double-step drawer, and prints how many pixels are new.
 fn print_drawing_on(
     rt: &impl Print,
     ends: Ends,
     window: Window,
     raster: &mut [u8],
 ) -> io::Result<()> {
-    match draw_single(ends, window, raster) {
-        Drawn::Marked(marks) => {
-            print_bytes(rt, raster)?;
-            print_marks(rt, ", count ", marks)?;
-        }
-        Drawn::Refused(_) => rt.print("refused")?,
+    let Ok(marks) = draw_single(ends, window, raster) else {
+        return rt.print("refused");
+    };
+    rt.print("bytes")?;
+    for byte in raster.iter() {
+        print!(rt; " {byte}")?;
     }
-    print_again(rt, ends, window, raster)
+    rt.print(", ")?;
+    print_marks(rt, marks)?;
+    match draw_double(ends, window, raster) {
+        Ok(marks) => print!(rt; ", again {}", marks.fresh),
+        Err(_) => rt.print("refused"),
+    }
 }
 
 // The same on a clear raster.
 fn print_drawing(rt: &impl Print, ends: Ends, window: Window) -> io::Result<()> {
-    let n = bytes(window);
-    if ROOM < n {
-        return Ok(());
+    let mut room = [0u8; ROOM];
+    match room.get_mut(..bytes(window)) {
+        Some(raster) => print_drawing_on(rt, ends, window, raster),
+        None => Ok(()),
     }
-    let mut raster = [0u8; ROOM];
-    print_drawing_on(rt, ends, window, &mut raster[..n])
 }
 
 // Prints a line that the document gives in a window at left 0, top 0.
-fn show_in(
-    rt: &impl Print,
-    letter: char,
-    x0: i32,
-    y0: i32,
-    x1: i32,
-    y1: i32,
-    width: u32,
-    height: u32,
-) -> io::Result<()> {
-    let ends = Ends { x0, y0, x1, y1 };
+fn show_in(rt: &impl Print, letter: char, ends: Ends, width: u32, height: u32) -> io::Result<()> {
     let window = Window {
         left: 0,
         top: 0,
@@ -137,7 +93,7 @@ fn show_in(
     rt.print(";")?;
     print_window(rt, window)?;
     print_drawing(rt, ends, window)?;
-    print_end(rt, whole && alike(ends, window, 0))
+    print_end(rt, whole && alike(ends, window, None))
 }
 
 // Prints the lettered lines.
@@ -151,6 +107,18 @@ pub fn show_all(rt: &impl Print) -> io::Result<()> {
     show(rt, 'G', 0, 0, 3, 7)?;
     show(rt, 'H', 0, 0, 11, 3)?;
     show(rt, 'I', 0, 0, -11, -3)?;
-    show_in(rt, 'J', -3, 0, 3, 0, 4, 1)?;
-    show_in(rt, 'K', 0, 0, 11, 3, 12, 4)
+    let j = Ends {
+        x0: -3,
+        y0: 0,
+        x1: 3,
+        y1: 0,
+    };
+    show_in(rt, 'J', j, 4, 1)?;
+    let h = Ends {
+        x0: 0,
+        y0: 0,
+        x1: 11,
+        y1: 3,
+    };
+    show_in(rt, 'K', h, 12, 4)
 }

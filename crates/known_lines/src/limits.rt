@@ -2,52 +2,39 @@
 ghost use Rattle.std.specs.Prelude.{◌≤◌};
 
 use crate::drawers::{ROOM, alike, bytes};
-use crate::print::{print_end, print_number};
+use crate::print::print_end;
 use line::ends::Ends;
 use line_draw::draw::draw_single;
-use line_list::list::{Listed, list_runs};
-use raster::drawn::Drawn;
-use raster::window::{MadeWindow, Window};
+use line_list::list::list_runs;
+use raster::window::Window;
+use refusal::Refusal;
 use std::io;
 
-// The number of the refusal that the single-step drawer answers on a raster of the window's length, or 0 where it draws.
-fn draw_refusal(ends: Ends, window: Window) -> u32 {
-    let n = bytes(window);
-    if ROOM < n {
-        return 0;
-    }
-    let mut raster = [0u8; ROOM];
-    match draw_single(ends, window, &mut raster[..n]) {
-        Drawn::Marked(_) => 0,
-        Drawn::Refused(refusal) => refusal.number(),
-    }
+// The refusal that the single-step drawer answers on a raster of the window's length, none where it draws.
+fn draw_refusal(ends: Ends, window: Window) -> Option<Refusal> {
+    let mut room = [0u8; ROOM];
+    let raster = room.get_mut(..bytes(window))?;
+    draw_single(ends, window, raster).err()
 }
 
-// The number of the refusal that the lister answers with a list of `n` numbers, or 0 where it lists.
-fn list_refusal(ends: Ends, n: usize) -> u32
+// The refusal that the lister answers with a list of `n` numbers, none where it lists.
+fn list_refusal(ends: Ends, n: usize) -> Option<Refusal>
     requires { n ≤ 12 }
 {
     let mut list = [0i32; 12];
-    match list_runs(ends, &mut list[..n]) {
-        Listed::Runs(_) => 0,
-        Listed::Refused(refusal) => refusal.number(),
-    }
+    list_runs(ends, &mut list[..n]).err()
 }
 
-// The number of the refusal that the window's maker answers, or 0 where it makes the window.
-fn maker_refusal(window: Window) -> u32 {
-    match Window::new(window.left, window.top, window.width, window.height) {
-        MadeWindow::Made(_) => 0,
-        MadeWindow::Refused(refusal) => refusal.number(),
-    }
+// The refusal that the window's maker answers, none where it makes the window.
+fn maker_refusal(window: Window) -> Option<Refusal> {
+    Window::new(window.left, window.top, window.width, window.height).err()
 }
 
-// Prints how an operation answered: `taken` for 0, else the refusal's number.
-fn print_answer(rt: &impl Print, refusal: u32) -> io::Result<()> {
-    if refusal == 0 {
-        rt.print(" taken")
-    } else {
-        print_number(rt, " refused ", refusal as u64)
+// Prints how an operation answered: `taken`, or the refusal's number.
+fn print_answer(rt: &impl Print, refusal: Option<Refusal>) -> io::Result<()> {
+    match refusal {
+        None => rt.print(" taken"),
+        Some(refusal) => print!(rt; " refused {}", refusal.number()),
     }
 }
 
@@ -76,7 +63,7 @@ fn show_end(rt: &impl Print, name: &str, column: i32) -> io::Result<()> {
 
 // A window of one row and this width, by the window's maker and every drawer.
 fn show_width(rt: &impl Print, width: u32) -> io::Result<()> {
-    print_number(rt, "width ", width as u64)?;
+    print!(rt; "width {width}")?;
     let ends = Ends {
         x0: 0,
         y0: 0,
@@ -101,8 +88,7 @@ fn show_width(rt: &impl Print, width: u32) -> io::Result<()> {
 fn show_list(rt: &impl Print, n: usize) -> io::Result<()>
     requires { n ≤ 12 }
 {
-    print_number(rt, "line H's list of ", n as u64)?;
-    rt.print(" numbers")?;
+    print!(rt; "line H's list of {n} numbers")?;
     let ends = Ends {
         x0: 0,
         y0: 0,

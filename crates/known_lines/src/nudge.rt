@@ -2,97 +2,86 @@
 // coordinate only. At step i their pixels are at most i × d / L apart, rounded up.
 ghost use Rattle.std.specs.Prelude.{◌<◌, ◌≤◌};
 
-use crate::distance::{ZERO, from_lowest, gap, larger};
-use crate::print::{print_end, print_ends, print_number, print_pixel, print_signed};
+use crate::distance::gap;
+use crate::print::{print_end, print_ends};
 use crate::small::{LIST, list_line};
-use coordinate::less;
 use line::ends::Ends;
 use std::io;
 
-// No coordinate: stands for the short coordinate at a step that a line does not have.
-const NONE: i32 = 16384;
-
-// The short coordinate at step `i`: the list's runs are in the line's order, each with a step for each of its pixels.
-fn short_at(list: &[i32], runs: u32, i: u32) -> i32 {
-    let whole = list.len() / 3;
+// The short coordinate at step `i`, none where the line does not have the step: the list's runs are in the line's order, each with
+// a step for each of its pixels.
+fn short_at(runs: &[[i32; 3]], i: u32) -> Option<i32> {
     let mut left = i;
-    let mut k = 0;
-    while k < whole && k < runs as usize {
-        let at = 3 * k;
-        // The number of pixels is in the coordinate range, so it is made unsigned as a coordinate is.
-        let pixels = less(from_lowest(list[at + 2]), ZERO);
+    for &[across, _, pixels] in runs {
+        let pixels = u32::try_from(pixels).unwrap_or(0);
         if left < pixels {
-            return list[at];
+            return Some(across);
         }
         left -= pixels;
-        k += 1;
     }
-    NONE
+    None
 }
 
-// Prints a text, then the short coordinates at steps 0 to `l`, and answers whether the line has these steps and no more.
-fn print_steps(rt: &impl Print, text: &str, list: &[i32], runs: u32, l: u32) -> io::Result<bool>
-    requires { l < 32768 }
-{
-    rt.print(text)?;
-    let mut i: u32 = 0;
-    while i <= l {
-        print_signed(rt, " ", short_at(list, runs, i))?;
-        i += 1;
-    }
-    Ok(short_at(list, runs, l) != NONE && short_at(list, runs, l + 1) == NONE)
-}
-
-// How far apart the lines may be at step `i`: i × d / L, rounded up.
-fn most_apart(i: u32, d: u32, l: u32) -> u32
-    requires { (i ≤ l) × (d < 32768) × (l < 32768) }
-{
-    if l == 0 {
-        return 0;
-    }
-    (i * d + (l - 1)) / l
-}
-
-// Prints how far apart the lines may be at steps 0 to `l`, and answers whether they are no further apart at any.
-fn print_most(
-    rt: &impl Print,
-    a: &[i32],
-    a_runs: u32,
-    b: &[i32],
-    b_runs: u32,
+// How far apart the second ends are, and how many steps each line has after the first.
+#[derive(Clone, Copy)]
+struct Apart {
     d: u32,
     l: u32,
-) -> io::Result<bool>
-    requires { (d < 32768) × (l < 32768) }
-{
+    ghost d_in: { d < 32768 },
+    ghost l_in: { l < 32768 },
+}
+
+impl Apart {
+    // How far apart the lines may be at step `i`: i × d / L, rounded up.
+    fn most_at(self, i: u32) -> u32
+        requires { i ≤ self.l }
+    {
+        if self.l == 0 {
+            return 0;
+        }
+        (i * self.d + (self.l - 1)) / self.l
+    }
+}
+
+// Prints a text, then the short coordinates at steps 0 to L, and answers whether the line has these steps and no more.
+fn print_steps(rt: &impl Print, text: &str, runs: &[[i32; 3]], apart: Apart) -> io::Result<bool> {
+    let l = apart.l;
+    rt.print(text)?;
+    for i in 0..=l {
+        match short_at(runs, i) {
+            Some(short) => print!(rt; " {short}")?,
+            None => rt.print(" ?")?,
+        }
+    }
+    Ok(short_at(runs, l).is_some() && short_at(runs, l + 1).is_none())
+}
+
+// Prints how far apart the lines may be at steps 0 to L, and answers whether they are no further apart at any.
+fn print_most(rt: &impl Print, a: &[[i32; 3]], b: &[[i32; 3]], apart: Apart) -> io::Result<bool> {
     rt.print(", at most")?;
     let mut near = true;
-    let mut i: u32 = 0;
-    while i <= l {
-        let most = most_apart(i, d, l);
-        print_number(rt, " ", most as u64)?;
-        if most < gap(short_at(a, a_runs, i), short_at(b, b_runs, i)) {
-            near = false;
-        }
-        i += 1;
+    for i in 0..=apart.l {
+        let most = apart.most_at(i);
+        print!(rt; " {most}")?;
+        near &= match (short_at(a, i), short_at(b, i)) {
+            (Some(x), Some(y)) => gap(x, y) <= most,
+            _ => false,
+        };
     }
     rt.print(" apart")?;
     Ok(near)
 }
 
 // Prints the lines' short coordinates and how far apart they may be.
-fn print_lines(rt: &impl Print, first: Ends, second: Ends, d: u32, l: u32) -> io::Result<()>
-    requires { (d < 32768) × (l < 32768) }
-{
+fn print_lines(rt: &impl Print, first: Ends, second: Ends, apart: Apart) -> io::Result<()> {
     let mut a = [0i32; LIST];
     let mut b = [0i32; LIST];
-    let a_runs = list_line(first, &mut a);
-    let b_runs = list_line(second, &mut b);
-    let first_whole = print_steps(rt, ": short", &a, a_runs, l)?;
-    let second_whole = print_steps(rt, " and", &b, b_runs, l)?;
-    let near = print_most(rt, &a, a_runs, &b, b_runs, d, l)?;
-    // `&` makes no branch, so there is less to prove.
-    print_end(rt, first_whole & second_whole & near)
+    let a = list_line(first, &mut a);
+    let b = list_line(second, &mut b);
+    let first_whole = print_steps(rt, ": short", a, apart)?;
+    let second_whole = print_steps(rt, " and", b, apart)?;
+    let near = print_most(rt, a, b, apart)?;
+    print_end(rt, first_whole && second_whole && near)
 }
 
 // Prints the lines from (x0,y0) to (x1,y1) and to (x2,y2).
@@ -104,18 +93,15 @@ fn show(rt: &impl Print, x0: i32, y0: i32, x1: i32, y1: i32, x2: i32, y2: i32) -
         x1: x2,
         y1: y2,
     };
-    print_ends(rt, "nudge ", first)?;
-    rt.print(" and ")?;
-    print_pixel(rt, x2, y2)?;
+    rt.print("nudge ")?;
+    print_ends(rt, first)?;
+    print!(rt; " and ({x2},{y2})")?;
     let dx = gap(x0, x1);
     let dy = gap(y0, y1);
-    let l = larger(dx, dy);
     // Where the rows are further apart than the columns, the short coordinate is the column, else the row.
-    if dx < dy {
-        print_lines(rt, first, second, gap(x1, x2), l)
-    } else {
-        print_lines(rt, first, second, gap(y1, y2), l)
-    }
+    let d = if dx < dy { gap(x1, x2) } else { gap(y1, y2) };
+    let apart = Apart { d, l: dx.max(dy) };
+    print_lines(rt, first, second, apart)
 }
 
 // Prints the nudges.

@@ -1,6 +1,6 @@
 // Every line between two pixels of a small square, in every direction, in several windows.
 use crate::drawers::alike;
-use crate::print::{print_end, print_number, print_window};
+use crate::print::{print_end, print_window};
 use coordinate::Coordinate;
 use line::ends::Ends;
 use raster::window::Window;
@@ -23,19 +23,6 @@ fn line(k: u32) -> Ends {
     }
 }
 
-// How many lines of the square are drawn alike in a window.
-fn count_alike(window: Window) -> u32 {
-    let mut count: u32 = 0;
-    let mut k: u32 = 0;
-    while k < LINES {
-        if alike(line(k), window, 0) {
-            count += 1;
-        }
-        k += 1;
-    }
-    count
-}
-
 // Prints a window, and how many of the square's lines are drawn alike there.
 fn show(rt: &impl Print, left: i32, top: i32, width: u32, height: u32) -> io::Result<()> {
     let window = Window {
@@ -46,9 +33,9 @@ fn show(rt: &impl Print, left: i32, top: i32, width: u32, height: u32) -> io::Re
     };
     rt.print("square")?;
     print_window(rt, window)?;
-    let count = count_alike(window);
+    let count = (0..LINES).filter(|k| alike(line(*k), window, None)).count();
     print!(rt; "{count} of {LINES} lines alike")?;
-    print_end(rt, count == LINES)
+    print_end(rt, count == LINES as usize)
 }
 
 // Prints the windows.

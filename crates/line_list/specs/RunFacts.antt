@@ -1,7 +1,7 @@
 -- Document 01, 'The equal-raster rule': a line's runs are its pixels in the line's order, and painting its run list is
 -- drawing it; their proofs are in proofs/RunFacts.antt. Assumes nothing.
 use Rattle.std.specs.Prelude.{ℕ, ◌+◌, ◌-◌, ◌*◌, ◌≤◌, ◌<◌, ◌≡◌, Bool, false, cond, List, ◌++◌, ℤ, pos, length}
-use Rattle.std.proofs.Math.Option.{none}
+use Rattle.std.specs.Prelude.{None}
 use Rattle.std.specs.Int.Signed.{lt_z}
 use Rattle.counting.specs.Count.{any, sum}
 use Rattle.coordinate.specs.Coordinate.{along}
@@ -75,11 +75,11 @@ pub record ReadBack (e : Ends) (rest : List ℤ) : Type 0 where
 -- no run of a line with ends within the limits is bad
 pub record NoneBad (e : Ends) (rest : List ℤ) : Type 0 where
   pub good : (k : ℕ) → k < short e + 1 → run_bad (list_then e rest) k ≡ false
-  pub first_bad_lem : first_bad (list_then e rest) (short e + 1) ≡ none
+  pub first_bad_lem : first_bad (list_then e rest) (short e + 1) ≡ None
 
 -- painting the line's run list is drawing the line
 pub record Painted (e : Ends) (rest : List ℤ) : Type 0 where
-  pub allowed : ends_out e ≡ false → first_bad (list_then e rest) (short e + 1) ≡ none
+  pub allowed : ends_out e ≡ false → first_bad (list_then e rest) (short e + 1) ≡ None
   pub marks : (column row : ℤ) → in_runs (axis e) (list_then e rest) (short e + 1) column row ≡ on_line e column row
   pub counts : (w : Window) → paint_count (axis e) (list_then e rest) (short e + 1) w ≡ line_count e w
   pub raster : (w : Window) (s : List ℕ) → plus w s (in_runs (axis e) (list_then e rest) (short e + 1)) ≡ line_raster e w s

@@ -1,34 +1,17 @@
 // Feeds `lineruns`' library function the refusals and the edges of what it reads, and prints the first line of each answer.
 #![tactic(auto)]
 
-ghost use Rattle.std.specs.Prelude.{◌≤◌, length};
-
 use lineruns_text::answer::answer;
 use std::io;
 use std::io::Write;
-
-// How long the text is up to its first newline, that one included.
-fn first_line(text: &[u8]) -> usize
-    ensures { result ≤ length text.now }
-{
-    let mut i = 0;
-    while i < text.len() {
-        let byte = text[i];
-        i += 1;
-        if byte == b'\n' {
-            return i;
-        }
-    }
-    i
-}
 
 // Prints the name of an input, a colon, a blank, and the first line that is answered to the input.
 fn show(rt: &impl Print, name: &str, input: &[u8]) -> io::Result<()> {
     let mut output = [0u8; 110000];
     answer(input, &mut output);
-    let end = first_line(&output);
+    let line = output.split_inclusive(|&byte| byte == b'\n').next();
     print!(rt; "{name}: ")?;
-    io::writer(rt).write_all(&output[..end])
+    io::writer(rt).write_all(line.unwrap_or_default())
 }
 
 // What is a line of text, and what is not.

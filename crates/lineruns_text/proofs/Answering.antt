@@ -1,71 +1,41 @@
 -- A list of 15000 numbers has room for 5000 runs and no more, so the lister's answer is the one that is printed; every text
 -- that is printed has room in 110000 bytes.
-use Prim.Native.Nat.{ℕ, zero, suc, ◌+◌, ◌*◌, ◌≤◌, ◌<◌}
-use mathlib.Core.Path.{◌≡◌, refl, sym, ap, ◌∙◌}
-use mathlib.Core.Bool.{Bool, true, false, cond}
-use mathlib.Core.Logic.{⊎_elim}
-use mathlib.Core.List.{List, [], ◌∷◌, ◌++◌}
-use mathlib.Core.Option.{Option, none, some}
-use native.Mathlib.Omega.{arith}
-use native.Mathlib.Numerals.{add-one}
-use lib.IntN.{ℤ}
-use lib.ListN.{length, drop, length-append}
-use lib.Dec.{ltb}
-use borrow.Author.Tests.{ltb-true, ltb-false, lt-ltb, le-ltb}
+use Rattle.std.proofs.Common.{◌≡◌, ℕ, zero, suc, ◌+◌, ◌*◌, ◌/◌, ◌≤◌, ◌<◌, Bool, true, false, cond, Option, None, Some, List, [], ◌∷◌, ◌++◌, ℤ, refl, sym, ap, ◌∙◌, ⊎_elim, arith, length, take, drop, append-nil, length-append, ltb}
+use borrow.Author.Tests.{ltb-true, ltb-false, lt-ltb}
 use Rattle.counting.specs.Count.{each}
 use Rattle.counting.proofs.Boolean.{tell, bool_iff}
 use Rattle.counting.proofs.Each.{each_cong}
 use Rattle.coordinate.specs.Coordinate.{along}
-use Rattle.coordinate.specs.declared.Axis.{Axis}
-use Rattle.refusal.specs.Refusal.{answer, unless_refused, number_of, number, first_met}
+use Rattle.refusal.specs.Refusal.{Answer, given, turned_away, unless_refused, number_of, number, first_met}
 use Rattle.refusal.specs.declared.Refusal.{Refusal}
 use Rattle.refusal.proofs.Conditions.{none_met}
 use Rattle.refusal.proofs.Handing.{turned, number_is, number-answer}
+use Rattle.std.proofs.lemmas.List.{take_at}
+use Rattle.runs.specs.Run.{run_list}
 use Rattle.runs.specs.Painting.{run_at, run_bad}
 use Rattle.line.specs.Line.{short, axis, ends_out}
 use Rattle.line.specs.declared.ends.Ends.{Ends}
 use Rattle.line_list.specs.Runs.{run, runs}
-use Rattle.line_list.specs.Listing.{list_conditions, line_list, listed}
+use Rattle.line_list.specs.Listing.{list_conditions, line_list, list_answer, listing}
 use Rattle.line_list.specs.RunFacts.{list_then}
 use Rattle.line_list.specs.declared.list.Listing.{Listing}
-use Rattle.line_list.specs.declared.list.Listed.{Listed}
-use Rattle.line_list.specs.declared.list.Listed.TheVariants.{Runs, Refused}
 use Rattle.line_list.proofs.ListAnswer.{listing_met, listing_axis, listing_runs}
 use Rattle.line_list.proofs.RunPixels.{runs-each}
 use Rattle.line_list.proofs.RunFacts.{read_back, none_bad}
 use Rattle.lineruns_text.specs.Writing.{axis_text, axis_line, refused_line, run_lines, print_conditions, told, answer_to, printed}
 use Rattle.lineruns_text.specs.Reading.{line_of}
-use Rattle.buffer.specs.Written.{written, Wrote}
-use Rattle.lineruns_text.proofs.Lines.{axis_line-length, refused_line-length}
-use Rattle.buffer.proofs.Placing.{length-written, wrote_both}
-use Rattle.lineruns_text.proofs.RunLines.{lines_none, length_more}
-
--- ---- room
-
-lines_length : (list : List ℤ) (n : ℕ) → ((k : ℕ) → k < n → run_bad list k ≡ false) → length (run_lines (each n (run_at list))) ≤ 20 * n
-lines_length list zero good = lines_none list
-lines_length list (suc n) good =
-    rw (sym (add-one n)) (length_more list 0 n [] (good n (omega arith)) (lines_length list n (λ k l. good k (omega arith))))
-
--- ---- the axis and the number of runs, then the runs
-
-module _ (letter n : ℕ) (few : n ≤ 5000) (entry : List ℕ) (room : 110000 ≤ length entry)
-    {between : List ℕ} {next : ℕ} (w : Wrote 0 (axis_text letter n) entry between next) where
-  pub runs_room : next + 20 * n ≤ length between
-  runs_room =
-      let l = axis_line-length letter n (omega arith) in
-      let s = ap length w.buffer ∙ length-written 0 (axis_text letter n) entry (omega arith) in
-      omega (arith, w.place)
-
-  pub list_wrote : (list : List ℤ) → ((k : ℕ) → k < n → run_bad list k ≡ false) → {exit : List ℕ} {end : ℕ} → Wrote next (run_lines (each n (run_at list))) between exit end
-      → Wrote 0 (axis_text letter n ++ run_lines (each n (run_at list))) entry exit end
-  list_wrote list good v =
-      let l = axis_line-length letter n (omega arith) in
-      let m = lines_length list n good in
-      let b = length-append (axis_text letter n) (run_lines (each n (run_at list))) in
-      wrote_both (axis_text letter n) (run_lines (each n (run_at list))) (omega arith) w v
+use Rattle.lineruns_text.specs.Written.{written}
+use Rattle.lineruns_text.proofs.Lengths.{refused_line-length, axis_line-length, lines_length}
+use Rattle.lineruns_text.proofs.Placing.{length-written}
 
 -- ---- what the lister says of the printed text
+
+-- the list's runs have room in the output, and their text is what is printed for the line
+pub record Printable (e : Ends) (l : Listing) (listed : List ℤ) : Type 0 where
+  pub few : l.runs ≤ 5000
+  pub number : length listed / 3 ≡ l.runs
+  pub good : (k : ℕ) → k < l.runs → run_bad listed k ≡ false
+  pub text : axis_text (along l.axis 120 121) l.runs ++ run_lines (each l.runs (run_at listed)) ≡ told (first_met (print_conditions e)) e
 
 room_same : (n : ℕ) → ltb 15000 (3 * n) ≡ ltb 5000 n
 room_same n =
@@ -77,8 +47,7 @@ told-number : (e : Ends) (n : ℕ) (r : Refusal) → number r ≡ n → told n e
 told-number e zero r q = absurd (omega (arith, (turned r).some))
 told-number e (suc n) r q = ap refused_line (sym q)
 
-module _ (e : Ends) (space list : List ℤ) (size : length space ≡ 15000) (r : Listed)
-    (answered : listed r ≡ answer {A = Axis × ℕ} (first_met (list_conditions e (length space))) (axis e, short e + 1))
+module _ (e : Ends) (space list : List ℤ) (size : length space ≡ 15000)
     (left : list ≡ unless_refused {A = List ℤ} (first_met (list_conditions e (length space))) (line_list e space) space) where
   abbrev met : ℕ
   met = first_met (list_conditions e (length space))
@@ -86,20 +55,21 @@ module _ (e : Ends) (space list : List ℤ) (size : length space ≡ 15000) (r :
   met_same : met ≡ first_met (print_conditions e)
   met_same = rw size (ap (λ (b : Bool). first_met ((1, ends_out e) ∷ (5, b) ∷ [])) (room_same (short e + 1)))
 
-  pub told_refused : (q : Refusal) → r ≡ Refused q → told (first_met (print_conditions e)) e ≡ refused_line (number q)
+  pub told_refused : (q : Refusal) → ◌≡◌ {A = Answer Listing} (turned_away q) (list_answer e space)
+      → told (first_met (print_conditions e)) e ≡ refused_line (number q)
   told_refused q is =
       told-number e (first_met (print_conditions e)) q
-      (sym (number_is (Axis × ℕ) q) ∙ ap number_of (sym (ap listed is) ∙ answered) ∙ number-answer met (axis e, short e + 1) ∙ met_same)
+      (sym (number_is Listing q) ∙ ap number_of is ∙ number-answer met (listing (axis e) (short e + 1)) ∙ met_same)
 
-  module _ (l : Listing) (is : r ≡ Runs l) where
+  module _ (l : Listing) (is : ◌≡◌ {A = Answer Listing} (given l) (list_answer e space)) where
     none_met_here : met ≡ 0
-    none_met_here = listing_met e space r answered l is
+    none_met_here = listing_met e space l is
 
-    pub axis_is : l.axis ≡ axis e
-    axis_is = listing_axis e space r answered l is
+    axis_is : l.axis ≡ axis e
+    axis_is = listing_axis e space l is
 
-    pub runs_is : l.runs ≡ short e + 1
-    runs_is = listing_runs e space r answered l is
+    runs_is : l.runs ≡ short e + 1
+    runs_is = listing_runs e space l is
 
     none_is : first_met (print_conditions e) ≡ 0
     none_is = sym met_same ∙ none_met_here
@@ -107,45 +77,43 @@ module _ (e : Ends) (space list : List ℤ) (size : length space ≡ 15000) (r :
     within : ends_out e ≡ false
     within = (none_met 0 (ends_out e) _ none_is).0
 
-    pub few : l.runs ≤ 5000
-    few = let f = ltb-false 5000 (short e + 1) (none_met 4 _ [] (none_met 0 (ends_out e) _ none_is).1).0 in omega (arith, runs_is)
+    few_runs : l.runs ≤ 5000
+    few_runs = let f = ltb-false 5000 (short e + 1) (none_met 4 _ [] (none_met 0 (ends_out e) _ none_is).1).0 in omega (arith, runs_is)
 
-    abbrev rest : List ℤ
-    rest = drop (3 * (short e + 1)) space
+    abbrev line_runs : List ℤ
+    line_runs = list_then e []
 
-    list_is : list ≡ list_then e rest
+    count : length (run_list (runs e)) ≡ 3 * l.runs
+    count = rw runs_is (read_back e []).length_is
+
+    listed_is : take (3 * l.runs) list ≡ line_runs
     unfolding line_list
-    list_is = left ∙ ap (λ (n : ℕ). unless_refused {A = List ℤ} n (line_list e space) space) none_met_here
+    listed_is =
+        rw (left ∙ ap (λ (n : ℕ). unless_refused {A = List ℤ} n (line_list e space) space) none_met_here, append-nil)
+        (take_at (run_list (runs e)) (drop (3 * (short e + 1)) space) (3 * l.runs) count)
 
-    pub list_room : 3 * l.runs ≤ length list
-    list_room = rw list_is (simp length-append (omega (arith, runs_is, (read_back e rest).length_is)))
+    none_is_bad : (k : ℕ) → k < l.runs → run_bad line_runs k ≡ false
+    none_is_bad k h = (none_bad e [] within).good k (omega (arith, runs_is))
 
-    pub good : (k : ℕ) → k < l.runs → run_bad list k ≡ false
-    good k h = rw list_is ((none_bad e rest within).good k (omega (arith, runs_is)))
+    same_runs : each l.runs (run_at line_runs) ≡ runs e
+    same_runs = rw runs_is (each_cong (short e + 1) (run_at line_runs) (run e) (read_back e []).run_is) ∙ sym (runs-each e)
 
-    same_runs : each l.runs (run_at list) ≡ runs e
-    same_runs =
-        rw (runs_is, list_is) (each_cong (short e + 1) (run_at (list_then e rest)) (run e) (read_back e rest).run_is)
-        ∙ sym (runs-each e)
-
-    pub told_list : axis_text (along l.axis 120 121) l.runs ++ run_lines (each l.runs (run_at list)) ≡ told (first_met (print_conditions e)) e
+    told_list : axis_text (along l.axis 120 121) l.runs ++ run_lines (each l.runs (run_at line_runs)) ≡ told (first_met (print_conditions e)) e
     unfolding axis_line
     told_list = rw (none_is, same_runs, axis_is, runs_is)
 
--- ---- what is read, and what is written then
+    pub printable : Printable e l (take (3 * l.runs) list)
+    printable = rw listed_is (record { few = few_runs; number = rw append-nil (omega (arith, count)); good = none_is_bad; text = told_list })
 
-pub printed_bad : (input : List ℕ) → line_of input ≡ none → printed input ≡ refused_line 9
+-- ---- what is read decides what is printed
+
+pub printed_bad : (input : List ℕ) → line_of input ≡ None → printed input ≡ refused_line 9
 unfolding printed
 printed_bad input q = ap answer_to q
 
-pub printed_line : (input : List ℕ) (e : Ends) → line_of input ≡ some e → printed input ≡ told (first_met (print_conditions e)) e
+pub printed_line : (input : List ℕ) (e : Ends) → line_of input ≡ Some e → printed input ≡ told (first_met (print_conditions e)) e
 unfolding printed
 printed_line input e q = ap answer_to q
-
-pub finished : (input text : List ℕ) {entry exit : List ℕ} {end : ℕ} → printed input ≡ text → 110000 ≤ length entry → Wrote 0 text entry exit end
-    → (end ≡ cond (ltb (length entry) 110000) 0 (length (printed input)))
-    × (exit ≡ cond (ltb (length entry) 110000) entry (written 0 (printed input) entry))
-finished input text {entry} q l w = let t = le-ltb (length entry) 110000 l in rw (t, q) (w.place ∙ omega arith, w.buffer)
 
 -- ---- every printed text has room
 
@@ -163,7 +131,8 @@ module _ (e : Ends) (few : short e + 1 ≤ 5000) where
   runs-part : ends_out e ≡ false → length (run_lines (runs e)) ≤ 20 * (short e + 1)
   runs-part p =
       let back = each_cong (short e + 1) (run_at (list_then e [])) (run e) (read_back e []).run_is in
-      rw (runs-each e, sym back) (lines_length (list_then e []) (short e + 1) (none_bad e [] p).good)
+      let size = (read_back e []).length_is in
+      rw (runs-each e, sym back) (lines_length (list_then e []) (short e + 1) (omega (arith, length-append {A = ℤ})) (none_bad e [] p).good)
 
   list_length : ends_out e ≡ false → length (axis_line e ++ run_lines (runs e)) ≤ 110000
   list_length p =
@@ -184,8 +153,8 @@ unfolding printed
 printed-length input = go (line_of input)
   where
     go : (o : Option Ends) → length (answer_to o) ≤ 110000
-    go none = let l = refused_line-length 9 (omega arith) in omega arith
-    go (some e) = told-length e (first_met (print_conditions e)) refl
+    go None = let l = refused_line-length 9 (omega arith) in omega arith
+    go (Some e) = told-length e (first_met (print_conditions e)) refl
 
 -- what was written can be taken from the output
 pub answer_fits : (input entry exit : List ℕ) (end : ℕ) → end ≡ cond (ltb (length entry) 110000) 0 (length (printed input))

@@ -1,17 +1,14 @@
 -- A run within the limits makes a line of at most 20 bytes, and the lines of k + 1 runs are those of k runs and one more.
-use Prim.Native.Nat.{ℕ, zero, suc, ◌+◌, ◌*◌, ◌≤◌, ◌<◌}
-use mathlib.Core.Path.{◌≡◌, refl, sym, ap, ◌∙◌}
-use mathlib.Core.Bool.{false}
-use mathlib.Core.List.{List, ◌++◌, append_assoc, append-nil}
-use native.Mathlib.Omega.{arith}
-use native.Mathlib.Numerals.{add-one}
-use lib.IntN.{ℤ, pos, negsuc, nat_abs}
-use lib.Signed.{non_neg}
+use Rattle.std.proofs.Common.{◌≡◌, ℕ, suc, zero, ◌+◌, ◌*◌, ◌/◌, ◌≤◌, ◌<◌, false, List, [], ◌++◌, ℤ, pos, negsuc, refl, sym, ap, ◌∙◌, append_assoc, append-nil, add-one, arith, length, take, drop, get_or, length-append}
+use Rattle.std.specs.Simd.{first_chunks}
+use Rattle.std.proofs.lemmas.List.{get_or-take, get_or-drop, drop-drop}
+use Rattle.std.proofs.lemmas.Fmt.{length-decimal-le, length_signed_le}
+use lib.IntN.{nat_abs}
+use lib.Signed.{non_neg, mag}
 use lib.Dec.{T}
 use mir.Syntax.{w32}
-use mir.Val.{Fits, to_z, of_z}
+use mir.Val.{Fits, SFits, to_z, of_z}
 use mir.ValLaws.{to_z-of_z}
-use lib.ListN.{length, length-append}
 use Rattle.counting.specs.Count.{each}
 use Rattle.coordinate.specs.Coordinate.{out_of_range}
 use Rattle.coordinate.proofs.Difference.{diff_parts}
@@ -21,13 +18,11 @@ use Rattle.runs.specs.Painting.{stored_across, stored_lowest, stored_pixels, nat
 use Rattle.runs.specs.Parts.{stored_at, bad_run}
 use Rattle.runs.proofs.Bad.{Lawful, lawful}
 use Rattle.lineruns_text.specs.Writing.{run_line, run_lines}
-use Rattle.buffer.specs.Written.{Wrote}
-use Rattle.lineruns_text.proofs.Lines.{run_line-length}
-use Rattle.buffer.proofs.Placing.{room_after, wrote_both, wrote_nothing}
+use Rattle.lineruns_text.proofs.Printed.{run_is}
 
-small : (z : ℤ) → out_of_range z ≡ false → nat_abs z < 100000
-small (pos n) e = let l = in_range (pos n) _ _ (diff_parts (pos n)) e in omega arith
-small (negsuc n) e = let l = in_range (negsuc n) _ _ (diff_parts (negsuc n)) e in omega arith
+pub lines_none : (f : ℕ → Run) → run_lines (each 0 f) ≡ []
+unfolding run_lines each
+lines_none f = refl
 
 lines_suc : (k : ℕ) (f : ℕ → Run) → run_lines (each (suc k) f) ≡ run_lines (each k f) ++ run_line (f k)
 unfolding run_lines each
@@ -37,71 +32,73 @@ lines_suc (suc k) f = ap (λ (t : List ℕ). run_line (f 0) ++ t) (lines_suc k (
 pub lines_more : (k : ℕ) (f : ℕ → Run) → run_lines (each (k + 1) f) ≡ run_lines (each k f) ++ run_line (f k)
 lines_more k f = ap (λ (n : ℕ). run_lines (each n f)) (add-one k) ∙ lines_suc k f
 
--- ---- a stored run, as the code hands it over
+-- ---- the numbers of run k, as they are read
 
-positive : (z : ℤ) → 1 ≤ natural z → z ≡ pos (natural z)
-positive (pos n) l = refl
-positive (negsuc n) l = absurd (omega arith)
+chunk_at : (n k : ℕ) (list : List ℤ) → k < n → get_or (first_chunks 3 n list) k [] ≡ take 3 (drop (3 * k) list)
+chunk_at zero k list h = absurd (omega arith)
+chunk_at (suc n) zero list h = refl
+chunk_at (suc n) (suc k) list h =
+    let place : 3 + 3 * k ≡ 3 * suc k = omega arith in
+    chunk_at n k (drop 3 list) (omega arith) ∙ ap (λ (l : List ℤ). take 3 l) (drop-drop (3 * k) 3 list ∙ ap (λ (i : ℕ). drop i list) place)
 
+abbrev item : List ℤ → ℕ → ℕ → ℤ
+item list k j = get_or (get_or (first_chunks 3 (length list / 3) list) k []) j (pos 0)
+
+-- the run as it is handed over
 abbrev pub handed : List ℤ → ℕ → Run
 handed list k =
     record {
-      across = to_z w32 (of_z w32 (stored_across list k));
-      lowest = to_z w32 (of_z w32 (stored_lowest list k));
-      pixels = nat_abs (to_z w32 (of_z w32 (stored_pixels list k)));
+      across = to_z w32 (of_z w32 (item list k 0));
+      lowest = to_z w32 (of_z w32 (item list k 1));
+      pixels = nat_abs (to_z w32 (of_z w32 (item list k 2)));
     }
 
-module _ (list : List ℤ) (k : ℕ) (good : run_bad list k ≡ false) where
-  held : Lawful (stored_at list k)
-  unfolding run_bad bad_run
-  held = lawful (stored_at list k) good
+small : (z : ℤ) → out_of_range z ≡ false → mag z < 50000
+small (pos n) e = let l = in_range (pos n) _ _ (diff_parts (pos n)) e in omega arith
+small (negsuc n) e = let l = in_range (negsuc n) _ _ (diff_parts (negsuc n)) e in omega arith
 
-  pixels_read : to_z w32 (of_z w32 (stored_pixels list k)) ≡ pos (natural (stored_pixels list k))
-  pixels_read =
-      ap (λ (z : ℤ). to_z w32 (of_z w32 z)) (positive (stored_pixels list k) held.some)
-      ∙ to_z-of_z w32 (pos (natural (stored_pixels list k))) (record { sfits = omega (arith, held.end) })
+module _ (list : List ℤ) (k : ℕ) (inside : k < length list / 3) where
+  item_is : (j : ℕ) → j < 3 → item list k j ≡ get_or list (3 * k + j) (pos 0)
+  item_is j h =
+      rw (chunk_at (length list / 3) k list inside)
+      (get_or-take 3 (drop (3 * k) list) j (pos 0) h ∙ get_or-drop (3 * k) list j (pos 0))
 
-  pub natural_read : T (non_neg (to_z w32 (of_z w32 (stored_pixels list k)))) × Fits w32 (nat_abs (to_z w32 (of_z w32 (stored_pixels list k))))
-  natural_read = rw pixels_read (tt, record { fits = omega (arith, held.end) })
+  first_is : item list k 0 ≡ stored_across list k
+  first_is = let place : 3 * k + 0 ≡ 3 * k = omega arith in item_is 0 (omega arith) ∙ ap (λ (i : ℕ). get_or list i (pos 0)) place
 
-  pub handed_is : handed list k ≡ run_at list k
-  handed_is =
-      rw
-      (to_z-of_z w32 (stored_across list k) (record { sfits = in_range_fits _ held.across_in }), to_z-of_z w32 (stored_lowest list k) (record { sfits = in_range_fits _ held.lowest_in }), pixels_read)
-      refl
+  module _ (good : run_bad list k ≡ false) where
+    held : Lawful (stored_at list k)
+    unfolding run_bad bad_run
+    held = lawful (stored_at list k) good
 
--- ---- one line more behind those of the runs before it
+    positive : (z : ℤ) → 1 ≤ natural z → z ≡ pos (natural z)
+    positive (pos n) l = refl
+    positive (negsuc n) l = absurd (omega arith)
 
-module _ (list : List ℤ) (at k : ℕ) (entry : List ℕ) where
-  abbrev line : List ℕ
-  line = run_line (run_at list k)
+    pixels_is : to_z w32 (of_z w32 (item list k 2)) ≡ pos (natural (stored_pixels list k))
+    pixels_is =
+        rw (item_is 2 (omega arith))
+        (ap (λ (z : ℤ). to_z w32 (of_z w32 z)) (positive (stored_pixels list k) held.some)
+        ∙ to_z-of_z w32 (pos (natural (stored_pixels list k))) (record { sfits = omega (arith, held.end) }))
 
-  abbrev before : List ℕ
-  before = run_lines (each k (run_at list))
+    pub pixels_fit : T (non_neg (to_z w32 (of_z w32 (item list k 2)))) × Fits w32 (nat_abs (to_z w32 (of_z w32 (item list k 2))))
+    pixels_fit = rw pixels_is (tt, record { fits = omega (arith, held.end) })
 
-  module _ (good : run_bad list k ≡ false) (short : length before ≤ 20 * k) where
-    good_length : length line ≤ 20
-    good_length =
-        let l = held list k good in
-        run_line-length (run_at list k) (small _ l.across_in) (small _ l.lowest_in) (omega (arith, l.end))
+    across_fits : SFits w32 (stored_across list k)
+    across_fits = record { sfits = in_range_fits _ held.across_in }
 
-    both_length : length (before ++ line) ≤ 20 * k + 20
-    both_length = let l = good_length in simp length-append (omega arith)
+    lowest_fits : SFits w32 (stored_lowest list k)
+    lowest_fits = record { sfits = in_range_fits _ held.lowest_in }
 
-    pub length_more : length (run_lines (each (k + 1) (run_at list))) ≤ 20 * (k + 1)
-    length_more = rw (lines_more k (run_at list)) (omega (arith, both_length))
+    pub handed_is : handed list k ≡ run_at list k
+    handed_is =
+        rw (first_is, item_is 1 (omega arith), pixels_is, to_z-of_z w32 (stored_across list k) across_fits, to_z-of_z w32 (stored_lowest list k) lowest_fits)
+        refl
 
-    module _ (room : at + (20 * k + 20) ≤ length entry) {between : List ℕ} {next : ℕ} (w : Wrote at before entry between next) where
-      pub line_room : next + length (run_line (handed list k)) ≤ length between
-      line_room = rw (handed_is list k good) (room_after before line (omega (arith, both_length)) w)
-
-      pub line_wrote : {exit : List ℕ} {end : ℕ} → Wrote next (run_line (handed list k)) between exit end → Wrote at (run_lines (each (k + 1) (run_at list))) entry exit end
-      line_wrote v = rw (lines_more k (run_at list)) (wrote_both before line (omega (arith, both_length)) w (rw (handed_is list k good) at v))
-
-pub lines_none : (list : List ℤ) → length (run_lines (each 0 (run_at list))) ≤ 0
-unfolding run_lines each
-lines_none list = omega arith
-
-pub wrote_none : (list : List ℤ) (at : ℕ) (entry : List ℕ) → Wrote at (run_lines (each 0 (run_at list))) entry entry at
-unfolding run_lines each
-wrote_none list at entry = wrote_nothing at entry
+    pub line_length : length (run_line (run_at list k)) ≤ 20
+    line_length =
+        let a = length_signed_le 5 (stored_across list k) (omega (arith, small _ held.across_in)) (omega (arith, small _ held.across_in)) in
+        let l = length_signed_le 5 (stored_lowest list k) (omega (arith, small _ held.lowest_in)) (omega (arith, small _ held.lowest_in)) in
+        let p = length-decimal-le 5 (natural (stored_pixels list k)) (omega arith) (omega (arith, held.end)) (omega (arith, held.end)) in
+        rw (run_is (stored_across list k) (stored_lowest list k) (natural (stored_pixels list k)) across_fits lowest_fits (omega (arith, held.end)))
+        (omega (arith, length-append {A = ℕ}))

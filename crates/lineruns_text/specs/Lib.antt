@@ -1,4 +1,3 @@
 pub mod Reading
-pub mod Answers
 pub mod Writing
 pub mod Written

@@ -1,10 +1,8 @@
 -- Document 01, 'Operations': what `lineruns` reads. One line: four numbers, single blanks between, ended by a newline or the
 -- end of input; a number is an optional minus and 1 to 6 digits. Assumes nothing.
-use Rattle.std.specs.Prelude.{ℕ, ◌+◌, ◌-◌, ◌*◌, Bool, cond, ◌&&◌, List, [], ◌∷◌, ℤ, pos, neg_ℤ, length, ltb, leb, eqb}
-use Rattle.std.proofs.Math.Option.{Option, none, some}
+use Rattle.std.specs.Prelude.{ℕ, ◌+◌, ◌-◌, ◌*◌, Bool, cond, ◌&&◌, Option, None, Some, List, [], ◌∷◌, ℤ, pos, neg_ℤ, length, ltb, leb, eqb}
+use Rattle.std.specs.List.{slice_split}
 use Rattle.line.specs.declared.ends.Ends.{Ends}
-use Rattle.lineruns_text.specs.declared.read.ReadLine.{ReadLine}
-use Rattle.lineruns_text.specs.declared.read.ReadLine.TheVariants.{Line, Bad}
 
 -- the characters that mean something
 abbrev pub newline : ℕ
@@ -22,26 +20,26 @@ is_digit b = leb 48 b && leb b 57
 
 -- the number that digits after the number n make; none where a character is no digit
 unfoldable pub value_from : ℕ → List ℕ → Option ℕ
-value_from n [] = some n
-value_from n (b ∷ bs) = cond (is_digit b) (value_from (10 * n + (b - 48)) bs) none
+value_from n [] = Some n
+value_from n (b ∷ bs) = cond (is_digit b) (value_from (10 * n + (b - 48)) bs) None
 
 -- 1 to 6 digits
 unfoldable pub digits : List ℕ → Option ℕ
 unfolding value_from
-digits w = cond (leb 1 (length w) && leb (length w) 6) (value_from 0 w) none
+digits w = cond (leb 1 (length w) && leb (length w) 6) (value_from 0 w) None
 
 abbrev pub positive : Option ℕ → Option ℤ
-positive none = none
-positive (some n) = some (pos n)
+positive None = None
+positive (Some n) = Some (pos n)
 
 abbrev pub negative : Option ℕ → Option ℤ
-negative none = none
-negative (some n) = some (neg_ℤ (pos n))
+negative None = None
+negative (Some n) = Some (neg_ℤ (pos n))
 
 -- an optional minus and 1 to 6 digits
 unfoldable pub number : List ℕ → Option ℤ
 unfolding digits
-number [] = none
+number [] = None
 number (b ∷ bs) = cond (eqb b minus) (negative (digits bs)) (positive (digits (b ∷ bs)))
 
 -- the text without the newline that ends it, if one does
@@ -51,38 +49,28 @@ unended (b ∷ []) = cond (eqb b newline) [] (b ∷ [])
 unended (b ∷ c ∷ bs) = b ∷ unended (c ∷ bs)
 
 -- the words between blanks; two blanks in a row have an empty word between them
-abbrev pub onto : ℕ → List (List ℕ) → List (List ℕ)
-onto b [] = (b ∷ []) ∷ []
-onto b (w ∷ ws) = (b ∷ w) ∷ ws
-
 unfoldable pub words : List ℕ → List (List ℕ)
-words [] = [] ∷ []
-words (b ∷ bs) = cond (eqb b blank) ([] ∷ words bs) (onto b (words bs))
+words s = slice_split (λ b. eqb b blank) s
 
 -- the line of four numbers
 abbrev pub ends_of : Option ℤ → Option ℤ → Option ℤ → Option ℤ → Option Ends
-ends_of (some a) (some b) (some c) (some d) = some (record { x0 = a; y0 = b; x1 = c; y1 = d })
-ends_of none b c d = none
-ends_of (some a) none c d = none
-ends_of (some a) (some b) none d = none
-ends_of (some a) (some b) (some c) none = none
+ends_of (Some a) (Some b) (Some c) (Some d) = Some (record { x0 = a; y0 = b; x1 = c; y1 = d })
+ends_of None b c d = None
+ends_of (Some a) None c d = None
+ends_of (Some a) (Some b) None d = None
+ends_of (Some a) (Some b) (Some c) None = None
 
 -- exactly four words, each a number
 unfoldable pub four : List (List ℕ) → Option Ends
 unfolding number
-four [] = none
-four (a ∷ []) = none
-four (a ∷ b ∷ []) = none
-four (a ∷ b ∷ c ∷ []) = none
+four [] = None
+four (a ∷ []) = None
+four (a ∷ b ∷ []) = None
+four (a ∷ b ∷ c ∷ []) = None
 four (a ∷ b ∷ c ∷ d ∷ []) = ends_of (number a) (number b) (number c) (number d)
-four (a ∷ b ∷ c ∷ d ∷ e ∷ ws) = none
+four (a ∷ b ∷ c ∷ d ∷ e ∷ ws) = None
 
 -- the line that the input is; none is refusal 9: over 64 bytes, or not one such line and nothing after
 unfoldable pub line_of : List ℕ → Option Ends
 unfolding four words unended
-line_of s = cond (ltb 64 (length s)) none (four (words (unended s)))
-
--- what `read_line` answers, as that
-abbrev pub read_line : ReadLine → Option Ends
-read_line (Line e) = some e
-read_line Bad = none
+line_of s = cond (ltb 64 (length s)) None (four (words (unended s)))

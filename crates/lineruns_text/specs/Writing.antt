@@ -1,6 +1,6 @@
 -- Document 01, 'Operations': what `lineruns` prints. Assumes nothing.
 use Rattle.std.specs.Prelude.{ℕ, zero, suc, ◌+◌, ◌/◌, ◌%◌, Bool, cond, List, [], ◌∷◌, ◌++◌, ℤ, pos, negsuc, ltb}
-use Rattle.std.proofs.Math.Option.{Option, none, some}
+use Rattle.std.specs.Prelude.{Option, None, Some}
 use Rattle.coordinate.specs.Coordinate.{along}
 use Rattle.refusal.specs.Refusal.{first_met}
 use Rattle.runs.specs.Run.{Run}
@@ -64,8 +64,8 @@ told (suc n) e = refused_line (suc n)
 
 -- all that is printed for an input: 9 is tested first
 abbrev pub answer_to : Option Ends → List ℕ
-answer_to none = refused_line 9
-answer_to (some e) = told (first_met (print_conditions e)) e
+answer_to None = refused_line 9
+answer_to (Some e) = told (first_met (print_conditions e)) e
 
 unfoldable pub printed : List ℕ → List ℕ
 unfolding line_of axis_line refused_line run_lines

@@ -4,4 +4,4 @@
 pub mod answer;
 pub mod print;
 pub mod read;
-pub mod write;
+pub mod text;

@@ -28,6 +28,20 @@ module _ (p : Point) where
       let u = none_met 12 (not_finite p) _ e in
       (u.0, (none_met 13 (rounded_out p) _ u.1).0)
 
+  -- so both floats round to coordinates
+  pub record Roundable : Type 0 where
+    pub column_finite : finite p.column ≡ true
+    pub row_finite : finite p.row ≡ true
+    pub column_in : out_of_range (nearest_to p.column) ≡ false
+    pub row_in : out_of_range (nearest_to p.row) ≡ false
+
+  pub roundable : first_met (point_conditions p) ≡ 0 → Roundable
+  roundable e =
+      let u = passed_point e in
+      let f = both_finite u.0 in
+      let r = both_in u.1 in
+      record { column_finite = f.0; row_finite = f.1; column_in = r.0; row_in = r.1 }
+
   -- and back
   pub all_finite : finite p.column ≡ true → finite p.row ≡ true → not_finite p ≡ false
   unfolding not_finite

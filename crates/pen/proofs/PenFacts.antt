@@ -5,7 +5,7 @@ use mathlib.Core.Path.{◌≡◌, refl, sym, ap, ◌∙◌}
 use mathlib.Core.Logic.{⊎_elim}
 use mathlib.Core.List.{[], ◌∷◌}
 use mathlib.Core.Bool.{true, false}
-use mathlib.Core.Option.{Option, none, some}
+use Rattle.std.specs.Prelude.{Option, None, Some}
 use lib.IntN.{ℤ}
 use lib.Ieee.{Float, nan, inf, fin}
 use lib.Ieee.Fits.{down_pos}
@@ -24,7 +24,7 @@ use Rattle.pen.specs.Touching.{not_finite, rounded_out, point_conditions, pixel_
 use Rattle.pen.specs.PenFacts.{RoundsTo, HalfPixel, PixelFacts, RefusalFacts}
 use Rattle.pen.specs.declared.report.Point.{Point}
 use Rattle.pen.specs.declared.report.Report.TheVariants.{Touching}
-use Rattle.pen.proofs.Conditions.{both_finite, both_in, passed_point, pass_point, all_finite, column_meets, row_meets}
+use Rattle.pen.proofs.Conditions.{both_in, roundable, pass_point, all_finite, column_meets, row_meets}
 
 denominator_pos : (x : Float) → 0 < denominator x
 unfolding denominator
@@ -49,25 +49,23 @@ unfolding nearest_to
 only_one x n r = (facts x).only n r.within
 
 value : Option Pixel → Pixel → Pixel
-value none other = other
-value (some p) other = p
+value None other = other
+value (Some p) other = p
 
 module _ (p : Point) (q : Pixel) where
-  told : touch_answer (Touching p) ≡ given (some q) → (first_met (point_conditions p) ≡ 0) × (some q ≡ some (pixel_of p))
-  told e = given_by (first_met (point_conditions p)) (some q) (some (pixel_of p)) (sym e)
+  told : touch_answer (Touching p) ≡ given (Some q) → (first_met (point_conditions p) ≡ 0) × (Some q ≡ Some (pixel_of p))
+  told e = given_by (first_met (point_conditions p)) (Some q) (Some (pixel_of p)) (sym e)
 
-  same : touch_answer (Touching p) ≡ given (some q) → q ≡ pixel_of p
+  same : touch_answer (Touching p) ≡ given (Some q) → q ≡ pixel_of p
   unfolding value
   same e = ap (λ (o : Option Pixel). value o q) (told e).1
 
-  answered : touch_answer (Touching p) ≡ given (some q) → RoundsTo p.column q.column × RoundsTo p.row q.row
+  answered : touch_answer (Touching p) ≡ given (Some q) → RoundsTo p.column q.column × RoundsTo p.row q.row
   answered e =
-      let u = passed_point p (told e).0 in
-      let f = both_finite p u.0 in
-      let r = both_in p u.1 in
-      rw (same e) (rounds_to p.column f.0 r.0, rounds_to p.row f.1 r.1)
+      let r = roundable p (told e).0 in
+      rw (same e) (rounds_to p.column r.column_finite r.column_in, rounds_to p.row r.row_finite r.row_in)
 
-  halves : touch_answer (Touching p) ≡ given (some q) → HalfPixel p.column q.column × HalfPixel p.row q.row
+  halves : touch_answer (Touching p) ≡ given (Some q) → HalfPixel p.column q.column × HalfPixel p.row q.row
   halves e = rw (same e) (half_pixel_of p.column, half_pixel_of p.row)
 
   passes : RoundsTo p.column q.column → RoundsTo p.row q.row → first_met (point_conditions p) ≡ 0
@@ -76,7 +74,7 @@ module _ (p : Point) (q : Pixel) where
       (ap out_of_range (sym (only_one p.column q.column a)) ∙ a.in_range)
       (ap out_of_range (sym (only_one p.row q.row b)) ∙ b.in_range)
 
-  met : RoundsTo p.column q.column → RoundsTo p.row q.row → touch_answer (Touching p) ≡ given (some q)
+  met : RoundsTo p.column q.column → RoundsTo p.row q.row → touch_answer (Touching p) ≡ given (Some q)
   met a b = rw (passes a b, ← only_one p.column q.column a, ← only_one p.row q.row b)
 
   pub pixel_facts : PixelFacts p q
@@ -86,7 +84,7 @@ module _ (p : Point) (q : Pixel) where
 
 module _ (p : Point) where
   numbered : (n : ℕ) → first_met (point_conditions p) ≡ suc n → touch_answer (Touching p) ≡ refused (suc n)
-  numbered n e = ap (λ (k : ℕ). answer k (some (pixel_of p))) e
+  numbered n e = ap (λ (k : ℕ). answer k (Some (pixel_of p))) e
 
   thirteen : not_finite p ≡ true → touch_answer (Touching p) ≡ refused 13
   thirteen e = numbered 12 (first 13 (not_finite p) ((14, rounded_out p) ∷ []) e)

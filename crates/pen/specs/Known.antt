@@ -1,7 +1,6 @@
 -- Known reports, the floats by their bits, as statements about the definitions; their proof, by computation, is in
 -- proofs/Known.antt. Assumes nothing.
-use Rattle.std.specs.Prelude.{ℕ, ◌-◌, ◌≡◌, ℤ, pos, negsuc}
-use Rattle.std.proofs.Math.Option.{Option, none, some}
+use Rattle.std.specs.Prelude.{ℕ, ◌-◌, ◌≡◌, ℤ, pos, negsuc, Option, None, Some}
 use Rattle.std.specs.Float.{binary32}
 use Rattle.std.specs.Float.Ieee.{of_bits}
 use Rattle.coordinate.specs.declared.Pixel.{Pixel}
@@ -18,7 +17,7 @@ unfoldable pub point : ℕ → ℕ → Point
 point column row = record { column = of_bits binary32 column; row = of_bits binary32 row }
 
 abbrev pub pixel : ℤ → ℤ → Answer (Option Pixel)
-pixel column row = given (some (record { column = column; row = row }))
+pixel column row = given (Some (record { column = column; row = row }))
 
 -- a touching pen with these bits as its column, 2.0 as its row, and the other way round
 abbrev pub column : ℕ → Answer (Option Pixel)
@@ -73,6 +72,6 @@ pub record KnownReports : Type 0 where
   pub out_then_nan : touch_answer (Touching (point 0x467f_fe00 0x7fc0_0000)) ≡ refused 13
   pub nan_then_out : touch_answer (Touching (point 0x7fc0_0000 0x467f_fe00)) ≡ refused 13
   -- a pen that is not touching is not refused
-  pub hovering : touch_answer (Hovering (point 0x3f00_0000 0x3f00_0000)) ≡ given none
-  pub hovering_nan : touch_answer (Hovering (point 0x7fc0_0000 0x7f80_0000)) ≡ given none
-  pub lifted : touch_answer Lifted ≡ given none
+  pub hovering : touch_answer (Hovering (point 0x3f00_0000 0x3f00_0000)) ≡ given None
+  pub hovering_nan : touch_answer (Hovering (point 0x7fc0_0000 0x7f80_0000)) ≡ given None
+  pub lifted : touch_answer Lifted ≡ given None

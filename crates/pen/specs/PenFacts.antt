@@ -1,7 +1,6 @@
 -- Document 02, 3/13: which pixel a touching pen is answered with, over whole numbers, and which refusal; the proofs are in
 -- proofs/PenFacts.antt. Assumes nothing.
-use Rattle.std.specs.Prelude.{◌*◌, ◌≤◌, ◌≡◌, true, false, ℤ, pos, ◌*ℤ◌, Float}
-use Rattle.std.proofs.Math.Option.{none, some}
+use Rattle.std.specs.Prelude.{◌*◌, ◌≤◌, ◌≡◌, true, false, ℤ, pos, ◌*ℤ◌, Float, None, Some}
 use Rattle.std.specs.Float.Ieee.Scale.{finite}
 use Rattle.coordinate.specs.Coordinate.{apart, out_of_range}
 use Rattle.coordinate.specs.Nearest.{WithinHalf}
@@ -24,10 +23,10 @@ pub record HalfPixel (x : Float) (n : ℤ) : Type 0 where
 
 pub record PixelFacts (p : Point) (q : Pixel) : Type 0 where
   -- where the answer is a pixel, both floats round to it, and neither is further off than half a pixel
-  pub rounds : touch_answer (Touching p) ≡ given (some q) → RoundsTo p.column q.column × RoundsTo p.row q.row
-  pub near : touch_answer (Touching p) ≡ given (some q) → HalfPixel p.column q.column × HalfPixel p.row q.row
+  pub rounds : touch_answer (Touching p) ≡ given (Some q) → RoundsTo p.column q.column × RoundsTo p.row q.row
+  pub near : touch_answer (Touching p) ≡ given (Some q) → HalfPixel p.column q.column × HalfPixel p.row q.row
   -- and a pixel that both floats round to is the answer
-  pub only : RoundsTo p.column q.column → RoundsTo p.row q.row → touch_answer (Touching p) ≡ given (some q)
+  pub only : RoundsTo p.column q.column → RoundsTo p.row q.row → touch_answer (Touching p) ≡ given (Some q)
 
 -- 13 where either float is not finite; 14 where both are and no pixel lies so; a pen that does not touch is never refused
 pub record RefusalFacts (p : Point) : Type 0 where
@@ -35,5 +34,5 @@ pub record RefusalFacts (p : Point) : Type 0 where
   pub row_thirteen : finite p.row ≡ false → touch_answer (Touching p) ≡ refused 13
   pub fourteen : finite p.column ≡ true → finite p.row ≡ true
       → ((q : Pixel) → RoundsTo p.column q.column → RoundsTo p.row q.row → ⊥) → touch_answer (Touching p) ≡ refused 14
-  pub hovering : touch_answer (Hovering p) ≡ given none
-  pub lifted : touch_answer Lifted ≡ given none
+  pub hovering : touch_answer (Hovering p) ≡ given None
+  pub lifted : touch_answer Lifted ≡ given None

@@ -1,16 +1,13 @@
 -- Document 02, 3/13: what a report of the pen is answered with. Assumes nothing.
-use Rattle.std.specs.Prelude.{ℕ, Bool, not, ◌||◌, List, [], ◌∷◌}
-use Rattle.std.proofs.Math.Option.{Option, none, some}
+use Rattle.std.specs.Prelude.{ℕ, Bool, not, ◌||◌, List, [], ◌∷◌, Option, None, Some}
 use Rattle.std.specs.Float.Ieee.Scale.{finite}
 use Rattle.coordinate.specs.Coordinate.{out_of_range}
 use Rattle.coordinate.specs.declared.Pixel.{Pixel}
-use Rattle.refusal.specs.Refusal.{Answer, given, turned_away, answer, first_met}
+use Rattle.refusal.specs.Refusal.{Answer, given, answer, first_met}
 use Rattle.pen.specs.Worth.{nearest_to}
 use Rattle.pen.specs.declared.report.Point.{Point}
 use Rattle.pen.specs.declared.report.Report.{Report}
 use Rattle.pen.specs.declared.report.Report.TheVariants.{Touching, Hovering, Lifted}
-use Rattle.pen.specs.declared.report.Touched.{Touched}
-use Rattle.pen.specs.declared.report.Touched.TheVariants.{At, NotTouching, Refused}
 
 -- 13: a float is infinite or not a number; `finite` is false for an infinity and a NaN, and true for every other float
 unfoldable pub not_finite : Point → Bool
@@ -30,12 +27,6 @@ pixel_of p = record { column = nearest_to p.column; row = nearest_to p.row }
 
 -- what a report is answered with: a pixel, none where the pen is not touching, or a refusal
 abbrev pub touch_answer : Report → Answer (Option Pixel)
-touch_answer (Touching p) = answer (first_met (point_conditions p)) (some (pixel_of p))
-touch_answer (Hovering p) = given none
-touch_answer Lifted = given none
-
--- the answer in the paper's terms
-abbrev pub touched : Touched → Answer (Option Pixel)
-touched (At p) = given (some p)
-touched NotTouching = given none
-touched (Refused r) = turned_away r
+touch_answer (Touching p) = answer (first_met (point_conditions p)) (Some (pixel_of p))
+touch_answer (Hovering p) = given None
+touch_answer Lifted = given None

@@ -1,6 +1,4 @@
-// What the tablet reports, and what a report is answered with.
-use coordinate::Pixel;
-use refusal::Refusal;
+// What the tablet reports.
 
 // Where the pen is, in pixels with a fraction.
 #[derive(Clone, Copy)]
@@ -15,12 +13,4 @@ pub enum Report {
     Touching(Point),
     Hovering(Point),
     Lifted,
-}
-
-// The pixel that the pen touches, the remark that it is not touching, or refusal 13 or 14.
-#[derive(Clone, Copy)]
-pub enum Touched {
-    At(Pixel),
-    NotTouching,
-    Refused(Refusal),
 }

@@ -4,13 +4,6 @@ ghost use Rattle.std.specs.Float.Ieee.Scale.{finite};
 ghost use Rattle.coordinate.specs.Coordinate.{out_of_range};
 ghost use Rattle.pen.specs.Worth.{nearest_to};
 
-// Whether `x` is neither infinite nor a NaN: an infinity less itself is a NaN, which equals nothing.
-pub fn is_finite(x: f32) -> bool
-    ensures { result ≡ finite x }
-{
-    x - x == 0.0
-}
-
 // Whether the whole number nearest to `x` is out of the coordinate range.
 pub fn rounds_out(x: f32) -> bool
     requires { finite x ≡ true }

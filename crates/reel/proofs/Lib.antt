@@ -1,11 +1,12 @@
 pub mod Encoding
-pub mod Halves
+pub mod Bytes
 pub mod Tables
 pub mod Numbers
 pub mod Packed
 pub mod Records
 pub mod Conditions
 pub mod Tests
+pub mod Chains
 pub mod Encoded
 pub mod Decoded
 pub mod RoundTrip

@@ -1,19 +1,19 @@
 -- Where no number of a table is below the one before it, none is below any earlier one, so the last is the highest.
-use Prim.Native.Nat.{ℕ, zero, suc, ◌+◌, ◌-◌, ◌≤◌, ◌<◌}
-use mathlib.Core.Path.{◌≡◌, refl, sym, ap, ◌∙◌}
-use mathlib.Core.Bool.{Bool, true, false}
+use Prim.Native.Nat.{ℕ, zero, suc, ◌+◌, ◌-◌, ◌*◌, ◌/◌, ◌≤◌, ◌<◌}
+use mathlib.Core.Path.{◌≡◌, ap, ◌∙◌}
+use mathlib.Core.Bool.{true, false}
 use mathlib.Core.Logic.{◌↔◌, ⊎_elim}
 use mathlib.Core.List.{List}
 use native.Mathlib.Omega.{arith}
 use native.Mathlib.Nat.{eq-or-lt_of_le}
-use native.Mathlib.Numerals.{add-one}
-use lib.ListN.{length, get_or}
-use lib.Dec.{ltb}
+use lib.ListN.{length, get_or, take, drop, length-take, length-drop}
 use borrow.Author.Tests.{ltb-false, lt-ltb, le-ltb}
-use Rattle.counting.specs.Count.{any, each}
-use Rattle.counting.proofs.Any.{any_make, any_none, any-zero, any_more, none_at}
-use Rattle.counting.proofs.Each.{each_at}
-use Rattle.reel.specs.Reel.{records_before, last_of, falls}
+use Rattle.counting.proofs.Any.{any_make, any_none, none_at}
+use Rattle.counting.proofs.Each.{each-length, each_at, each_cong}
+use Rattle.reel.specs.Numbers.{number_at}
+use Rattle.reel.specs.Reel.{records_before, last_of, falls, numbers_from}
+use Rattle.reel.specs.Reading.{numbers}
+use Rattle.reel.proofs.Numbers.{number-take, number-drop}
 
 -- no step of a table falls
 abbrev pub Steps : List ℕ → Type 0
@@ -25,6 +25,10 @@ falls_not table = (
   λ e k l. ltb-false _ _ (none_at (length table) _ e k l),
   λ h. any_none (length table) _ (λ k l. le-ltb _ _ (h k l)),
 )
+
+pub falls_here : (table : List ℕ) (k : ℕ) → k < length table → get_or table k 0 < records_before table k → falls table ≡ true
+unfolding falls
+falls_here table k l h = any_make (length table) _ k l (lt-ltb _ _ h)
 
 module _ (table : List ℕ) (e : falls table ≡ false) where
   pub rises : (k j : ℕ) → k ≤ j → j ≤ length table → records_before table k ≤ records_before table j
@@ -40,47 +44,38 @@ module _ (table : List ℕ) (e : falls table ≡ false) where
   pub at_most_last : (k : ℕ) → k ≤ length table → records_before table k ≤ last_of table
   at_most_last k l = rises k (length table) l (omega arith)
 
+-- where a frame's records begin, and how many are up to its end
+module _ (table : List ℕ) (level : falls table ≡ false) (few : 8 * last_of table ≤ 65536) (k : ℕ) (l : k < length table) where
+  pub record Frame : Type 0 where
+    pub rising : records_before table k ≤ records_before table (suc k)
+    pub most : 8 * records_before table (suc k) ≤ 65536
+
+  pub frame : Frame
+  frame = record { rising = (falls_not table).0 level k l; most = omega (arith, at_most_last table level (suc k) l) }
+
 -- the number of the frame before
 pub before_number : (table : List ℕ) (k : ℕ) → 1 ≤ k → get_or table (k - 1) 0 ≡ records_before table k
 before_number table zero l = absurd (omega arith)
 before_number table (suc k) l = let e : suc k - 1 ≡ k = omega arith in rw e
 
--- a table that is given by its numbers
-pub before_each : (n : ℕ) (f : ℕ → ℕ) (k : ℕ) → k < n → records_before (each n f) (suc k) ≡ f k
-before_each n f k l = each_at n f 0 k l
+-- a table that is given by its bytes
+module _ (bytes : List ℕ) where
+  pub numbers-length : length (numbers bytes) ≡ length bytes / 4
+  unfolding numbers
+  numbers-length = each-length (length bytes / 4) _
 
--- the first numbers of the table say it too
-pub before_some : (k n : ℕ) (f : ℕ → ℕ) → k ≤ n → records_before (each k f) k ≡ records_before (each n f) k
-before_some zero n f l = refl
-before_some (suc k) n f l = before_each (suc k) f k (omega arith) ∙ sym (before_each n f k l)
+  pub numbers-at : (k : ℕ) → k < length bytes / 4 → get_or (numbers bytes) k 0 ≡ number_at 4 bytes (4 * k)
+  unfolding numbers
+  numbers-at k l = each_at (length bytes / 4) _ 0 k l
 
--- ---- the numbers one after the other
+  pub last_number : last_of (numbers bytes) ≡ records_before (numbers bytes) (length bytes / 4)
+  last_number = ap (records_before (numbers bytes)) numbers-length
 
--- the number at place i falls
-abbrev pub falls_at : List ℕ → ℕ → Bool
-falls_at table i = ltb (records_before table (suc i)) (records_before table i)
-
--- none of the first k numbers falls, and `before` is the last of them, 0 at first
-pub record Risen (table : List ℕ) (before k : ℕ) : Type 0 where
-  pub before_is : before ≡ records_before table k
-  pub none_falls : any k (falls_at table) ≡ false
-
-module _ (table : List ℕ) where
-  pub risen_none : Risen table 0 0
-  risen_none = record { before_is = refl; none_falls = any-zero (falls_at table) }
-
-  module _ (before k next : ℕ) (r : Risen table before k) (next_is : next ≡ records_before table (suc k)) where
-    pub risen_on : before ≤ next → Risen table next (k + 1)
-    risen_on h =
-        record {
-          before_is = next_is ∙ ap (records_before table) (sym (add-one k));
-          none_falls = any_more k (falls_at table) r.none_falls (le-ltb (records_before table (suc k)) (records_before table k) (omega (arith, r.before_is)));
-        }
-
-    pub falls_here : k < length table → next < before → falls table ≡ true
-    unfolding falls
-    falls_here l h = any_make (length table) (falls_at table) k l (lt-ltb (records_before table (suc k)) (records_before table k) (omega (arith, r.before_is)))
-
-  pub risen_all : (before k : ℕ) → Risen table before k → k ≡ length table → falls table ≡ false
-  unfolding falls
-  risen_all before k r e = rw (sym e) r.none_falls
+-- n numbers that are cut out of a file
+pub numbers_cut : (file : List ℕ) (at n : ℕ) → at + 4 * n ≤ length file → numbers (take (4 * n) (drop at file)) ≡ numbers_from file at n
+unfolding numbers
+numbers_cut file at n l =
+    let size : length (take (4 * n) (drop at file)) / 4 ≡ n = simp (length-take, length-drop) (omega arith) in
+    rw size
+    (each_cong n _ _ (λ k h.
+    number-take 4 (4 * n) (drop at file) (4 * k) (omega arith) ∙ number-drop 4 at file (4 * k)))

@@ -2,7 +2,7 @@
 use Prim.Native.Nat.{ℕ, zero, suc, ◌+◌, ◌<◌}
 use mathlib.Core.Path.{◌≡◌, refl, sym, ap, ◌∙◌}
 use mathlib.Core.List.{List, [], ◌∷◌}
-use mathlib.Core.Option.{Option, none, some}
+use Rattle.std.specs.Prelude.{Option, None, Some}
 use native.Mathlib.Nat.{add-zero}
 use lib.IntN.{ℤ}
 use lib.ListN.{length}
@@ -22,7 +22,8 @@ use Rattle.reel.specs.RoundTrip.{Written, frame_records}
 use Rattle.reel.specs.declared.find.FramePart.{FramePart}
 use Rattle.reel.proofs.RoundTrip.{written}
 use Rattle.reel_draw.specs.Records.{records_fresh, records_raster}
-use Rattle.reel_draw.specs.Drawing.{rows_conditions, frame_band_conditions, part_marks, part_raster}
+use Rattle.band.specs.Drawing.{rows_conditions}
+use Rattle.reel_draw.specs.Drawing.{frame_band_conditions, part_marks, part_raster}
 use Rattle.reel_draw.specs.FrameFacts.{NeverOne, FrameAdds, new_of, DrawnAsWritten}
 use Rattle.reel_draw.proofs.RecordLaws.{record_in}
 use Rattle.reel_draw.proofs.PartLaws.{found_within}
@@ -30,7 +31,7 @@ use Rattle.reel_draw.proofs.FrameLaws.{rows_numbered}
 
 -- an accepted file has the part of each frame below their number
 part-found : (file : List ℕ) (k : ℕ) → first_met (file_conditions file) ≡ 0 → k < length (table file)
-    → given (some (frame_part (table file) k)) ≡ find_answer file k
+    → given (Some (frame_part (table file) k)) ≡ find_answer file k
 part-found file k e l = rw (e, lt-ltb k (length (table file)) l)
 
 pub never_one : (file : List ℕ) → first_met (file_conditions file) ≡ 0 → NeverOne file
@@ -52,8 +53,8 @@ module _ (file : List ℕ) (w : Window) (s : List ℕ) (f r : ℕ) where
   adds : (n : ℕ) → number ≡ n → (p : Option FramePart)
       → marked_count w (unless_refused n (part_raster file p w f r s) s) ≡ marked_count w s + new_of (answer n (part_marks file p w s f r))
   unfolding records_raster records_fresh
-  adds zero e none = sym (add-zero (marked_count w s))
-  adds zero e (some part) = marked-plus w s (shaped e) _
+  adds zero e None = sym (add-zero (marked_count w s))
+  adds zero e (Some part) = marked-plus w s (shaped e) _
   adds (suc n) e p = sym (add-zero (marked_count w s))
 
   pub frame_adds : (k : ℕ) → FrameAdds file k w s f r
@@ -73,7 +74,7 @@ module _ (list : List ℤ) (numbers : List ℕ) (n : ℕ) (e : first_met (write_
   rows_left : first_met (frame_band_conditions file w (length s) f r) ≡ first_met (rows_conditions w (length s) f r)
   rows_left = append_clear (rows_conditions w (length s) f r) (file_conditions file) file_is.accepted
 
-  there : part_of (table file) k ≡ some (frame_part numbers k)
+  there : part_of (table file) k ≡ Some (frame_part numbers k)
   there = ap (λ (t : List ℕ). part_of t k) file_is.same-table ∙ rw (lt-ltb k (length numbers) l)
 
   same : records_in file (frame_part numbers k) ≡ frame_records list numbers k

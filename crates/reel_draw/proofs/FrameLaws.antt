@@ -4,7 +4,7 @@ use Prim.Native.Nat.{ℕ}
 use mathlib.Core.Path.{◌≡◌, sym, ap, ◌∙◌}
 use mathlib.Core.Bool.{Bool}
 use mathlib.Core.List.{List}
-use mathlib.Core.Option.{Option, none, some}
+use Rattle.std.specs.Prelude.{Option, None, Some}
 use lib.ListN.{length}
 use lib.Dec.{lit≤}
 use Rattle.refusal.specs.Refusal.{Answer, given, turned_away, answer, unless_refused, first_met}
@@ -17,7 +17,8 @@ use Rattle.reel.specs.Reel.{table}
 use Rattle.reel.specs.Reading.{file_conditions, part_of, find_answer, records_in}
 use Rattle.reel.specs.declared.find.FramePart.{FramePart}
 use Rattle.reel_draw.specs.Records.{records_marks, records_raster}
-use Rattle.reel_draw.specs.Drawing.{rows_conditions, frame_band_conditions, part_marks, part_raster, frame_answer, frame_after}
+use Rattle.band.specs.Drawing.{rows_conditions}
+use Rattle.reel_draw.specs.Drawing.{frame_band_conditions, part_marks, part_raster, frame_answer, frame_after}
 
 -- the numbers of the conditions on the window, the raster and the band
 pub rows_numbered : (w : Window) (n f r : ℕ) → Numbered (rows_conditions w n f r)
@@ -62,11 +63,11 @@ module _ (file : List ℕ) (k : ℕ) (w : Window) (s : List ℕ) (f r : ℕ) whe
               ∙ ap (λ (n : ℕ). unless_refused n (part_raster file (part_of (table file) k) w f r s) s) (sym none_met),
         )
 
-    pub no_frame : given none ≡ find_answer file k → DrawsFrame (given none) s
-    no_frame e = found-drawn none e
+    pub no_frame : given None ≡ find_answer file k → DrawsFrame (given None) s
+    no_frame e = found-drawn None e
 
-    pub frame_drawn : (part : FramePart) → given (some part) ≡ find_answer file k → (m : Marks) (t : List ℕ)
-        → m ≡ records_marks (records_in file part) w s f r → t ≡ records_raster (records_in file part) w f r s → DrawsFrame (given (some m)) t
+    pub frame_drawn : (part : FramePart) → given (Some part) ≡ find_answer file k → (m : Marks) (t : List ℕ)
+        → m ≡ records_marks (records_in file part) w s f r → t ≡ records_raster (records_in file part) w f r s → DrawsFrame (given (Some m)) t
     frame_drawn part e m t p q =
-        let d = found-drawn (some part) e in
-        (ap (λ (x : Marks). given (some x)) p ∙ d.0, q ∙ d.1)
+        let d = found-drawn (Some part) e in
+        (ap (λ (x : Marks). given (Some x)) p ∙ d.0, q ∙ d.1)

@@ -4,7 +4,7 @@ use Prim.Native.Nat.{ℕ, suc, ◌+◌, ◌-◌, ◌*◌, ◌≤◌, ◌<◌, mi
 use mathlib.Core.Path.{◌≡◌, refl, ap, ◌∙◌}
 use mathlib.Core.Bool.{Bool, true, false, cond}
 use mathlib.Core.List.{List}
-use mathlib.Core.Option.{none, some}
+use Rattle.std.specs.Prelude.{None, Some}
 use native.Mathlib.Omega.{arith}
 use lib.IntN.{ℤ, pos}
 use lib.ListN.{length, take, drop, length-take, length-drop}
@@ -61,18 +61,18 @@ frame_in list numbers k e =
     let low : i < m = omega arith in
     rw (get_or-take m (drop n list) i (pos 0) low, get_or-drop n list i (pos 0)) (in_list list e (n + i) (omega arith)))
 
-part_is : (numbers : List ℕ) (k : ℕ) (part : FramePart) → some part ≡ part_of numbers k → (k < length numbers) × (part ≡ frame_part numbers k)
+part_is : (numbers : List ℕ) (k : ℕ) (part : FramePart) → Some part ≡ part_of numbers k → (k < length numbers) × (part ≡ frame_part numbers k)
 part_is numbers k part e = go (ltb k (length numbers)) refl e
   where
-    go : (t : Bool) → ltb k (length numbers) ≡ t → some part ≡ cond t (some (frame_part numbers k)) none → (k < length numbers) × (part ≡ frame_part numbers k)
+    go : (t : Bool) → ltb k (length numbers) ≡ t → Some part ≡ cond t (Some (frame_part numbers k)) None → (k < length numbers) × (part ≡ frame_part numbers k)
     go true l q = (ltb-true k (length numbers) l, cc)
     go false l q = absurd (let z : ◌≡◌ {A = ℕ} 0 1 = cc in omega arith)
 
-module _ (file : List ℕ) (k : ℕ) (part : FramePart) (found : given (some part) ≡ find_answer file k) where
+module _ (file : List ℕ) (k : ℕ) (part : FramePart) (found : given (Some part) ≡ find_answer file k) where
   -- so it lies in the file, and its records can be drawn
   pub found_within : (part.place + part.len ≤ length file) × (coordinates_out (records_in file part) ≡ false) × (length file < 65537)
   found_within =
-      let known = given_by (first_met (file_conditions file)) (some part) (part_of (table file) k) found in
+      let known = given_by (first_met (file_conditions file)) (Some part) (part_of (table file) k) found in
       let r : Readable file = (readable file).0 known.0 in
       let at = part_is (table file) k part known.1 in
       let fits = frame_before file r k at.0 in

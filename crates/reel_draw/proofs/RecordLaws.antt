@@ -11,12 +11,12 @@ use lib.ListN.{length}
 use Rattle.counting.specs.Count.{any, sum}
 use Rattle.counting.proofs.Boolean.{neither_or}
 use Rattle.counting.proofs.Counted.{count_most}
-use Rattle.refusal.specs.Refusal.{Answer, answer, unless_refused, first_met}
+use Rattle.refusal.specs.Refusal.{answer, unless_refused, first_met, given}
 use Rattle.refusal.proofs.Conditions.{unmet}
 use Rattle.raster.specs.Raster.{plus, in_window}
 use Rattle.raster.specs.Window.{frame_conditions}
 use Rattle.raster.specs.Fresh.{fresh_count}
-use Rattle.raster.specs.Drawn.{marks, marks_of}
+use Rattle.raster.specs.Drawn.{marks}
 use Rattle.raster.specs.declared.drawn.Marks.{Marks}
 use Rattle.raster.specs.declared.window.Window.{Window}
 use Rattle.raster.proofs.Frames.{Frame, frame, raster_max}
@@ -109,18 +109,17 @@ module _ (list : List ℤ) (w : Window) (s : List ℕ) (passed : first_met (fram
         ∙ ap (λ (n : ℕ). first_met (frame_conditions w n)) (drew_length list w s now count fresh k d)
         ∙ passed
 
-    pub drew_on : (e : Ends) (a : Answer Marks) (m : Marks) (next : List ℕ) → e ≡ line_of list k → a ≡ draw_answer e w now → m ≡ marks_of a
+    -- so the line is not refused
+    pub drawn_is : (e : Ends) → e ≡ line_of list k → draw_answer e w now ≡ given (line_marks e w now)
+    drawn_is e is = rw is (ap (λ (n : ℕ). answer n (line_marks (line_of list k) w now)) number_is)
+
+    pub drew_on : (e : Ends) (m : Marks) (next : List ℕ) → e ≡ line_of list k → m ≡ line_marks e w now
         → next ≡ draw_after e w now → Drew list w s next (count + m.count) (fresh + m.fresh) (k + 1)
     unfolding sum line_fresh line_raster
-    drew_on e a m next is answered marked after =
+    drew_on e m next is marked after =
         let P : ℤ → ℤ → Bool = on_first list k in
         let Q : ℤ → ℤ → Bool = on_line (line_of list k) in
-        let given : Marks = line_marks (line_of list k) w now in
-        let counts : m ≡ given =
-        marked
-        ∙ ap marks_of answered
-        ∙ ap (λ (e : Ends). marks_of (draw_answer e w now)) is
-        ∙ ap (λ (n : ℕ). marks_of (answer n given)) number_is in
+        let counts : m ≡ line_marks (line_of list k) w now = marked ∙ ap (λ (e : Ends). line_marks e w now) is in
         let drawn : next ≡ plus w now Q =
         after
         ∙ ap (λ (e : Ends). draw_after e w now) is

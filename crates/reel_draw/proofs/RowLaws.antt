@@ -10,17 +10,16 @@ use Rattle.refusal.specs.Refusal.{first_met}
 use Rattle.refusal.proofs.Conditions.{none_met, append_none}
 use Rattle.raster.specs.Raster.{row_bytes}
 use Rattle.raster.specs.Band.{band_window}
-use Rattle.raster.specs.Window.{size_out, frame_conditions}
+use Rattle.raster.specs.Window.{raster_bytes, window_conditions, frame_conditions}
 use Rattle.raster.specs.Drawn.{marks}
 use Rattle.raster.specs.declared.drawn.Marks.{Marks}
 use Rattle.raster.specs.declared.window.Window.{Window}
 use Rattle.raster.proofs.Band.{plus_band, fresh_band}
-use Rattle.raster.proofs.Frames.{Frame, frame, frame_met, frame_numbered, size_in, rows_length}
+use Rattle.raster.proofs.Frames.{Frame, frame, frame_numbered, window_in, rows_length}
 use Rattle.raster.proofs.Over.{Bytes}
-use Rattle.band.specs.Drawing.{band_out}
-use Rattle.band.proofs.Limits.{Within, band_within, band_frame}
+use Rattle.band.specs.Drawing.{band_out, rows_conditions}
+use Rattle.band.proofs.Limits.{Within, band_within}
 use Rattle.reel_draw.specs.Records.{on_records, window_count, window_fresh, window_marks, window_raster, records_count, records_fresh, records_marks, records_raster}
-use Rattle.reel_draw.specs.Drawing.{rows_conditions}
 
 -- what is known where no condition is met
 module _ (w : Window) (N f n : ℕ) (h : first_met (rows_conditions w N f n) ≡ 0) where
@@ -30,11 +29,14 @@ module _ (w : Window) (N f n : ℕ) (h : first_met (rows_conditions w N f n) ≡
   pub frame_left : Frame w N
   frame_left = frame w N parts.0
 
-  pub rows_left : Within w f n
-  rows_left = band_within w f n (none_met 5 (band_out w f n) [] parts.1).0
+  pub window_left : first_met (window_conditions w) ≡ 0
+  window_left = window_in w N parts.0
 
-  pub size_left : size_out w ≡ false
-  size_left = size_in w _ parts.0
+  pub last_left : band_out w f n ≡ false
+  last_left = (none_met 5 (band_out w f n) [] parts.1).0
+
+  pub rows_left : Within w f n
+  rows_left = band_within w f n last_left
 
 module _ (list : List ℤ) (w : Window) (s : List ℕ) (f n : ℕ) (h : first_met (rows_conditions w (length s) f n) ≡ 0) where
   abbrev b : ℕ
@@ -48,11 +50,6 @@ module _ (list : List ℤ) (w : Window) (s : List ℕ) (f n : ℕ) (h : first_me
 
   rows : Within w f n
   rows = rows_left w (length s) f n h
-
-  part_passed : first_met (frame_conditions (band_window w f n) (length part)) ≡ 0
-  part_passed =
-      ap (λ (k : ℕ). first_met (frame_conditions (band_window w f n) k)) (rows_length w (length s) f n frm.shape rows.last s refl)
-      ∙ frame_met (band_window w f n) (n * b) (band_frame w (length s) f n frm rows)
 
   -- the drawing of the part, put back between what lies before and after it
   put_back : Bytes s → take (f * b) s ++ (window_raster list (band_window w f n) part ++ drop (n * b) (drop (f * b) s)) ≡ records_raster list w f n s
@@ -70,8 +67,8 @@ module _ (list : List ℤ) (w : Window) (s : List ℕ) (f n : ℕ) (h : first_me
     abbrev lent : List ℕ
     lent = take k (drop from s)
 
-    pub lent_passed : first_met (frame_conditions v (length lent)) ≡ 0
-    lent_passed = rw (v-is, k-is, from_is) part_passed
+    pub lent_length : length lent ≡ raster_bytes v
+    lent_length = rw (v-is, k-is, from_is) (rows_length w (length s) f n frm.shape rows.last s refl)
 
     pub rows_counted : Bytes s → (m : Marks) → m ≡ window_marks list v lent → m ≡ records_marks list w s f n
     rows_counted bytes m p = p ∙ rw (v-is, k-is, from_is) (part_marks_lem bytes)

@@ -1,7 +1,7 @@
 -- Document 02, 2/13: what follows for the frames of an accepted file, and of a file that the writer writes. The proofs are in
 -- proofs/FrameFacts.antt. Assumes nothing.
 use Rattle.std.specs.Prelude.{ℕ, ◌+◌, ◌<◌, ◌≡◌, false, List, ℤ, length}
-use Rattle.std.proofs.Math.Option.{Option, none, some}
+use Rattle.std.specs.Prelude.{Option, None, Some}
 use Rattle.refusal.specs.Refusal.{Answer, given, refused, refused_at, answer, unless_refused, first_met}
 use Rattle.raster.specs.Fresh.{marked_count}
 use Rattle.raster.specs.declared.drawn.Marks.{Marks}
@@ -10,8 +10,9 @@ use Rattle.line.specs.Line.{ends_out}
 use Rattle.reel.specs.Reel.{encoded, table}
 use Rattle.reel.specs.Reading.{frame_part, records_in}
 use Rattle.reel.specs.RoundTrip.{frame_records}
+use Rattle.band.specs.Drawing.{rows_conditions}
 use Rattle.reel_draw.specs.Records.{record_count, line_of, records_marks, records_raster}
-use Rattle.reel_draw.specs.Drawing.{rows_conditions, frame_answer, frame_after}
+use Rattle.reel_draw.specs.Drawing.{frame_answer, frame_after}
 
 -- in an accepted file no record of a frame meets 1, so it can be handed to every line operation
 abbrev pub NeverOne : List ℕ → Type 0
@@ -21,8 +22,8 @@ NeverOne file =
 
 -- the new pixels of a drawing, 0 where it is refused or the frame isn't there
 abbrev pub new_of : Answer (Option Marks) → ℕ
-new_of (given none) = 0
-new_of (given (some m)) = m.fresh
+new_of (given None) = 0
+new_of (given (Some m)) = m.fresh
 new_of (refused n) = 0
 new_of (refused_at n place) = 0
 
@@ -35,6 +36,6 @@ FrameAdds file k w s first rows =
 -- only the window, the raster and the band can refuse it
 pub record DrawnAsWritten (list : List ℤ) (numbers : List ℕ) (k : ℕ) (w : Window) (s : List ℕ) (first rows : ℕ) : Type 0 where
   pub answers : frame_answer (encoded list numbers) k w s first rows
-      ≡ answer (first_met (rows_conditions w (length s) first rows)) (some (records_marks (frame_records list numbers k) w s first rows))
+      ≡ answer (first_met (rows_conditions w (length s) first rows)) (Some (records_marks (frame_records list numbers k) w s first rows))
   pub leaves : frame_after (encoded list numbers) k w s first rows
       ≡ unless_refused (first_met (rows_conditions w (length s) first rows)) (records_raster (frame_records list numbers k) w first rows s) s

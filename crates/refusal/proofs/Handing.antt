@@ -5,11 +5,11 @@ use mathlib.Core.List.{List, ◌++◌}
 use mathlib.Core.Path.{◌≡◌, refl, sym, ap, ◌∙◌}
 use mathlib.Core.Logic.{◌⊎◌, inl, inr, ⊎_elim}
 use native.Mathlib.Omega.{arith}
-use Rattle.refusal.specs.Refusal.{Answer, given, refused, refused_at, turned_away, answer, unless_refused, number_of, number, place, is_refused, checked, first_met}
+use Rattle.std.specs.Prelude.{Result, Ok, Err, IsOk, IsErrAnd}
+use Rattle.std.proofs.lemmas.Result.{err_from_is_err_and}
+use Rattle.refusal.specs.Refusal.{Answer, given, refused, refused_at, turned_away, answer, unless_refused, number_of, number, place, is_refused, answered, first_met}
 use Rattle.refusal.specs.declared.Refusal.{Refusal}
 use Rattle.refusal.specs.declared.Refusal.TheVariants.{Ends, Size, Place, RasterLength, ListLength, Rows, RunCount, Run, Input, File, Table, Record, NotFinite, PenRange}
-use Rattle.refusal.specs.declared.Check.{Check}
-use Rattle.refusal.specs.declared.Check.TheVariants.{Passed, Refused}
 use Rattle.refusal.proofs.Conditions.{append_met}
 
 -- a refusal's number has at most two digits, and its answer, whatever the values would be, is that number, with the place where
@@ -73,17 +73,10 @@ not_given : (r : Refusal) → turned_away {A = Unit} r ≡ given tt → ⊥
 not_given r e =
     let z : ◌≡◌ {A = ℕ} 0 1 = ap (λ (t : Bool). cond t 0 1) (sym (turned_refused Unit r) ∙ ap is_refused e) in omega arith
 
--- what a check's answer says of the number that it tested
-module _ (check : Check) (n : ℕ) (told : checked check ≡ answer n tt) where
-  pub refused_by : (r : Refusal) → check ≡ Refused r → ◌≡◌ {A = Answer Unit} (turned_away r) (answer n tt)
-  refused_by r e = sym (ap checked e) ∙ told
-
-  pub passed_by : check ≡ Passed → n ≡ 0
-  passed_by e = zero_given n (sym (ap checked e) ∙ told)
-    where
-      zero_given : (n : ℕ) → ◌≡◌ {A = Answer Unit} (given tt) (answer n tt) → n ≡ 0
-      zero_given zero e = refl
-      zero_given (suc n) e = sym (ap number_of e)
+-- what a test that passed says of the number that it tested
+pub passed : (n : ℕ) (u : Unit) → ◌≡◌ {A = Answer Unit} (given u) (answer n tt) → n ≡ 0
+passed zero u e = refl
+passed (suc n) u e = absurd (omega (arith, ap number_of e))
 
 -- an operation that answers the check's refusal: its answer, and a buffer that it does not touch
 module _ {A : Type 0} (r : Refusal) where
@@ -112,6 +105,20 @@ pub handed_more : {A : Type 0} (r : Refusal) (cs ds : List (ℕ × Bool)) (a : A
     → turned_away r ≡ answer (first_met (cs ++ ds)) a
 handed_more r cs ds a e = handed_on r (first_met cs) a e ∙ ap (λ (n : ℕ). answer n a) (sym (same_number r cs ds e))
 
+-- what `?` hands on from a test: the operation's result is that refusal
+module _ {A : Type 0} (x : Result A Refusal) (r : Refusal) (is : IsErrAnd x (λ s. s ≡ r)) where
+  pub err_is : answered x ≡ turned_away r
+  err_is = let p = err_from_is_err_and x is in rw (p.1, p.2)
+
+  -- its answer, by the number that the test looked at
+  pub handed_err : (n : ℕ) (a : A) → ◌≡◌ {A = Answer Unit} (turned_away r) (answer n tt) → answered x ≡ answer n a
+  handed_err n a e = err_is ∙ handed_on r n a e
+
+  -- and with further conditions
+  pub handed_err_more : (cs ds : List (ℕ × Bool)) (a : A) → ◌≡◌ {A = Answer Unit} (turned_away r) (answer (first_met cs) tt)
+      → answered x ≡ answer (first_met (cs ++ ds)) a
+  handed_err_more cs ds a e = err_is ∙ handed_more r cs ds a e
+
 -- what an operation's values say of the number that it tested
 module _ {A : Type 0} where
   value : A → Answer A → A
@@ -127,3 +134,12 @@ module _ {A : Type 0} where
   unfolding value
   given_by zero a b e = (refl, ap (value a) e)
   given_by (suc n) a b e = absurd (omega (arith, ap number_of e))
+
+  -- an operation that is not refused answers its values
+  pub ok_is : (x : Result A Refusal) (a : A) → answered x ≡ given a → x ≡ Ok a
+  unfolding value
+  ok_is (Ok b) a e = ap Ok (ap (value b) e)
+  ok_is (Err r) a e = absurd (let z : ◌≡◌ {A = ℕ} 0 1 = ap (λ (t : Bool). cond t 0 1) (sym (turned_refused A r) ∙ ap is_refused e) in omega arith)
+
+  pub ok_by : (x : Result A Refusal) (a : A) → answered x ≡ given a → IsOk x
+  ok_by x a e = rw (ok_is x a e) refl

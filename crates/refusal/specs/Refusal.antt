@@ -1,10 +1,8 @@
 -- Document 01, 'Turned away', with the numbers that document 02 adds: the numbers of the refusals, and an operation's answer in
 -- the paper's terms. Assumes nothing.
-use Rattle.std.specs.Prelude.{ℕ, zero, suc, Bool, true, false, cond, List, [], ◌∷◌}
+use Rattle.std.specs.Prelude.{ℕ, zero, suc, Bool, true, false, cond, List, [], ◌∷◌, Result, Ok, Err}
 use Rattle.refusal.specs.declared.Refusal.{Refusal}
 use Rattle.refusal.specs.declared.Refusal.TheVariants.{Ends, Size, Place, RasterLength, ListLength, Rows, RunCount, Run, Input, File, Table, Record, NotFinite, PenRange}
-use Rattle.refusal.specs.declared.Check.{Check}
-use Rattle.refusal.specs.declared.Check.TheVariants.{Passed, Refused}
 
 -- an operation's answer: the values that it gives, or a refusal, which is its number; 8 gives the place of a run as well
 pub data Answer (A : Type 0) : Type 0 where
@@ -29,10 +27,10 @@ turned_away Record = refused 12
 turned_away NotFinite = refused 13
 turned_away PenRange = refused 14
 
--- what a check answers: nothing, or the refusal
-abbrev pub checked : Check → Answer Unit
-checked Passed = given tt
-checked (Refused r) = turned_away r
+-- what an operation answers, in the paper's terms: its values, or the refusal. A test answers no values.
+abbrev pub answered : {A : Type 0} → Result A Refusal → Answer A
+answered (Ok a) = given a
+answered (Err r) = turned_away r
 
 -- an answer's number, 0 where nothing is refused
 abbrev pub number_of : {A : Type 0} → Answer A → ℕ

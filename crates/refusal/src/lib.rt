@@ -1,12 +1,11 @@
-// Why an operation turns its arguments away: document 01's list of refusals, which document 02 goes on with, and what a test of
-// them answers.
+// Why an operation turns its arguments away: document 01's list of refusals, which document 02 goes on with.
 #![tactic(auto)]
 
 ghost use Rattle.std.specs.Prelude.{◌≡◌};
 ghost use Rattle.refusal.specs.Refusal.{number, place};
 
-// The refusals, in the order of their numbers.
-#[derive(Clone, Copy)]
+// The refusals, in the order of their numbers. An operation answers `Ok` with its values, or `Err` with one of these.
+#[derive(Clone, Copy, PartialEq, Eq)]
 pub enum Refusal {
     // 1: a coordinate of an end is out of range.
     Ends,
@@ -66,27 +65,8 @@ impl Refusal {
         ensures { result ≡ place self }
     {
         match self {
-            Refusal::Ends => 0,
-            Refusal::Size => 0,
-            Refusal::Place => 0,
-            Refusal::RasterLength => 0,
-            Refusal::ListLength => 0,
-            Refusal::Rows => 0,
-            Refusal::RunCount => 0,
             Refusal::Run(place) => place,
-            Refusal::Input => 0,
-            Refusal::File => 0,
-            Refusal::Table => 0,
-            Refusal::Record => 0,
-            Refusal::NotFinite => 0,
-            Refusal::PenRange => 0,
+            _ => 0,
         }
     }
-}
-
-// What a test of an operation's arguments answers: none of its conditions is met, or the first that is.
-#[derive(Clone, Copy)]
-pub enum Check {
-    Passed,
-    Refused(Refusal),
 }

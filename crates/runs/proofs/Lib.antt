@@ -2,4 +2,5 @@ pub mod Bad
 pub mod Cut
 pub mod Column
 pub mod Painting
+pub mod Counted
 pub mod Outcome

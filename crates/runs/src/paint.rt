@@ -1,23 +1,22 @@
 // The run painter.
-ghost use Rattle.std.specs.Prelude.{◌≡◌, false, ◌+◌, ◌*◌, ◌≤◌, ◌<◌, length};
-ghost use Rattle.std.proofs.Math.Option.{none};
+ghost use Rattle.std.specs.Prelude.{◌≡◌, false, ◌+◌, ◌/◌, ◌^◌, ◌≤◌, ◌<◌, length, None};
 ghost use Rattle.coordinate.specs.Coordinate.{out_of_range};
 ghost use Rattle.coordinate.specs.declared.Axis.TheVariants.{Y};
-ghost use Rattle.refusal.specs.Refusal.{first_met};
+ghost use Rattle.refusal.specs.Refusal.{answered};
 ghost use Rattle.raster.specs.Raster.{plus};
 ghost use Rattle.raster.specs.Fresh.{bit_count};
-ghost use Rattle.raster.specs.Window.{size_out, place_out, frame_conditions};
-ghost use Rattle.raster.specs.Drawn.{drawn};
+ghost use Rattle.raster.specs.Window.{raster_bytes};
 ghost use Rattle.runs.specs.Run.{in_run, run_count};
 ghost use Rattle.runs.specs.Painting.{natural, first_bad, in_runs, paint_marks, paint_answer, paint_after};
 ghost use Rattle.runs.specs.Parts.{stored_at, run_of, bad_run, bad_check, cut_part, turned_window, piece_of, down_from};
 
-use coordinate::{Axis, Coordinate, less};
-use raster::drawn::{Drawn, Marks};
+use coordinate::{Axis, Coordinate};
+use raster::drawn::Marks;
+use raster::grid::Grid;
 use raster::mark::MASK;
 use raster::span::fill_span;
 use raster::window::Window;
-use refusal::{Check, Refusal};
+use refusal::Refusal;
 
 // The three numbers of a stored run.
 #[derive(Clone, Copy)]
@@ -25,6 +24,18 @@ struct Stored {
     across: i32,
     lowest: i32,
     pixels: i32,
+}
+
+impl From<[i32; 3]> for Stored {
+    ghost from_gives = { λ numbers run. run ≡ stored_at numbers 0 };
+
+    fn from([across, lowest, pixels]: [i32; 3]) -> Stored {
+        Stored {
+            across,
+            lowest,
+            pixels,
+        }
+    }
 }
 
 // A part of a side of the window: its first pixel, counted from 0 at the side's first, and its number of pixels.
@@ -43,27 +54,11 @@ struct Piece {
     pixels: u32,
 }
 
-// The run at place `k` of the list.
-fn read_run(list: &[i32], k: u32) -> Stored
-    requires { 3 * k + 2 < length list.now }
-    ensures { result ≡ stored_at list.now k }
-{
-    let at = 3 * k as usize;
-    Stored {
-        across: list[at],
-        lowest: list[at + 1],
-        pixels: list[at + 2],
-    }
-}
-
 // A number that is not below 0, and 0 for one that is.
 fn natural_of(z: i32) -> u32
     ensures { result ≡ natural z }
 {
-    if z < 0 {
-        return 0;
-    }
-    z as u32
+    u32::try_from(z).unwrap_or(0)
 }
 
 // Whether the run has no pixel, or one out of the coordinate range.
@@ -83,19 +78,18 @@ fn run_bad(run: Stored) -> bool
     Coordinate::COUNT < Coordinate::biased(run.lowest) + n
 }
 
-// Whether the first `count` runs of the list are lawful: passed, or refusal 8 with the place of the first that is not.
-fn check_runs(count: u32, list: &[i32]) -> Check
-    requires { 3 * count ≤ length list.now }
-    ensures { result ≡ bad_check (first_bad list.now count) }
+// Whether the list's runs, which a `u32` counts, are lawful, or refusal 8 with the place of the first that is not.
+fn check_runs(list: &[i32]) -> Result<(), Refusal>
+    requires { length list.now / 3 < 2 ^ 32 }
+    ensures { result ≡ bad_check (first_bad list.now (length list.now / 3)) }
 {
-    let mut k: u32 = 0;
-    while k < count {
-        if run_bad(read_run(list, k)) {
-            return Check::Refused(Refusal::Run(k));
+    let (runs, _) = list.as_chunks::<3>();
+    for (k, &run) in runs.iter().enumerate() {
+        if run_bad(Stored::from(run)) {
+            return Err(Refusal::Run(k as u32));
         }
-        k += 1;
     }
-    Check::Passed
+    Ok(())
 }
 
 // Of a side of `size` coordinates from `first` on, the part that the `n` coordinates from `low` on cover.
@@ -105,12 +99,12 @@ fn cut(low: i32, n: u32, first: i32, size: u32) -> Part
 {
     let start = Coordinate::biased(low);
     let origin = Coordinate::biased(first);
-    let from = less(start, origin);
-    let past = less(start + n, origin);
-    let end = if past < size { past } else { size };
+    let from = start.saturating_sub(origin);
+    let past = (start + n).saturating_sub(origin);
+    let end = past.min(size);
     Part {
         from,
-        pixels: less(end, from),
+        pixels: end.saturating_sub(from),
     }
 }
 
@@ -129,35 +123,33 @@ fn turned(axis: Axis, window: Window) -> Window
     }
 }
 
-// Marks the window's `n` pixels of column `column` from row `row` on, both counted from 0 at left and top, and answers how many
+// Marks the grid's `n` pixels of column `column` from row `row` on, both counted from 0 at left and top, and answers how many
 // bits that adds.
-fn fill_column(window: Window, column: u32, row: u32, n: u32, raster: &mut [u8]) -> u32
-    requires { (first_met (frame_conditions window (length raster.old)) ≡ 0) × (column < window.width) × (row + n ≤ window.height) }
-    ensures raster_after { raster.new ≡ plus window raster.old (in_run Y (down_from window column row n)) }
+fn fill_column(grid: Grid, column: u32, row: u32, n: u32, raster: &mut [u8]) -> u32
+    requires { (length raster.old ≡ raster_bytes grid.window) × (column < grid.window.width) × (row + n ≤ grid.window.height) }
+    ensures raster_after { raster.new ≡ plus grid.window raster.old (in_run Y (down_from grid.window column row n)) }
     ensures bits_grow { bit_count raster.new ≡ bit_count raster.old + result }
 {
     let bit = MASK[column as usize % 8];
-    let stride = window.row_bytes();
-    let mut at = window.row_start(row) + column as usize / 8;
+    let stride = grid.row_bytes();
+    let mut at = grid.row_start(row) + column as usize / 8;
     let mut fresh: u32 = 0;
-    let mut i: u32 = 0;
-    while i < n {
+    for _ in 0..n {
         let old = raster[at];
         raster[at] = old | bit;
-        fresh += (old & bit == 0) as u32;
+        fresh += u32::from(old & bit == 0);
         at += stride;
-        i += 1;
     }
     fresh
 }
 
-// What is left of a lawful run in the window.
-fn cut_run(axis: Axis, run: Stored, window: Window) -> Piece
-    requires { (bad_run run ≡ false) × (size_out window ≡ false) × (place_out window ≡ false) }
-    ensures { result ≡ piece_of axis run window }
+// What is left of a lawful run in the grid's window.
+fn cut_run(axis: Axis, run: Stored, grid: Grid) -> Piece
+    requires { bad_run run ≡ false }
+    ensures { result ≡ piece_of axis run grid.window }
 {
     let n = natural_of(run.pixels);
-    let side = turned(axis, window);
+    let side = turned(axis, grid.window);
     let long = cut(run.lowest, n, side.left, side.width);
     let short = cut(run.across, 1, side.top, side.height);
     Piece {
@@ -168,42 +160,41 @@ fn cut_run(axis: Axis, run: Stored, window: Window) -> Piece
 }
 
 // Marks the pixels of a lawful run that lie in the window, and answers how many they are and how many of them are new.
-fn paint_run(axis: Axis, run: Stored, window: Window, raster: &mut [u8]) -> Marks
-    requires { (bad_run run ≡ false) × (first_met (frame_conditions window (length raster.old)) ≡ 0) }
-    ensures count_value { result.count ≡ run_count axis (run_of run) window }
-    ensures raster_after { raster.new ≡ plus window raster.old (in_run axis (run_of run)) }
+fn paint_run(axis: Axis, run: Stored, grid: Grid, raster: &mut [u8]) -> Marks
+    requires { (bad_run run ≡ false) × (length raster.old ≡ raster_bytes grid.window) }
+    ensures count_value { result.count ≡ run_count axis (run_of run) grid.window }
+    ensures raster_after { raster.new ≡ plus grid.window raster.old (in_run axis (run_of run)) }
     ensures bits_grow { bit_count raster.new ≡ bit_count raster.old + result.fresh }
 {
-    let piece = cut_run(axis, run, window);
+    let piece = cut_run(axis, run, grid);
     let n = piece.pixels;
     if n == 0 {
         return Marks { count: 0, fresh: 0 };
     }
     let fresh = match axis {
-        Axis::X => fill_span(window, piece.across, piece.lowest, n, raster),
-        Axis::Y => fill_column(window, piece.across, piece.lowest, n, raster),
+        Axis::X => fill_span(grid, piece.across, piece.lowest, n, raster),
+        Axis::Y => fill_column(grid, piece.across, piece.lowest, n, raster),
     };
     Marks {
-        count: n as u64,
-        fresh: fresh as u64,
+        count: u64::from(n),
+        fresh: u64::from(fresh),
     }
 }
 
-// Marks the pixels of the first `count` runs, all lawful, that lie in the window, and answers their sum over the runs and how
-// many pixels are new.
-fn paint_all(axis: Axis, count: u32, list: &[i32], window: Window, raster: &mut [u8]) -> Marks
-    requires { (3 * count ≤ length list.now) × (first_bad list.now count ≡ none) × (first_met (frame_conditions window (length raster.old)) ≡ 0) }
-    ensures value { result ≡ paint_marks axis count list.now window raster.old }
-    ensures raster_after { raster.new ≡ plus window raster.old (in_runs axis list.now count) }
+// Marks the pixels of the list's runs, all lawful and counted by a `u32`, that lie in the window, and answers their sum over
+// the runs and how many pixels are new.
+fn paint_all(axis: Axis, list: &[i32], grid: Grid, raster: &mut [u8]) -> Marks
+    requires { (length list.now / 3 < 2 ^ 32) × (first_bad list.now (length list.now / 3) ≡ None) × (length raster.old ≡ raster_bytes grid.window) }
+    ensures value { result ≡ paint_marks axis (length list.now / 3) list.now grid.window raster.old }
+    ensures raster_after { raster.new ≡ plus grid.window raster.old (in_runs axis list.now (length list.now / 3)) }
 {
+    let (runs, _) = list.as_chunks::<3>();
     let mut total: u64 = 0;
     let mut fresh: u64 = 0;
-    let mut k: u32 = 0;
-    while k < count {
-        let marks = paint_run(axis, read_run(list, k), window, raster);
+    for &run in runs {
+        let marks = paint_run(axis, Stored::from(run), grid, raster);
         total += marks.count;
         fresh += marks.fresh;
-        k += 1;
     }
     Marks {
         count: total,
@@ -215,20 +206,20 @@ fn paint_all(axis: Axis, count: u32, list: &[i32], window: Window, raster: &mut 
 // overlap counted each time, and how many pixels are new, an overlap once. All runs are checked before the first bit changes;
 // numbers after the counted runs are not looked at. Refused (2, 3, 4, 7, and 8 with the place of the first bad run) it marks
 // nothing.
-pub fn paint_runs(axis: Axis, count: u32, list: &[i32], window: Window, raster: &mut [u8]) -> Drawn
-    ensures answered { drawn result ≡ paint_answer axis count list.now window raster.old }
+pub fn paint_runs(
+    axis: Axis,
+    count: u32,
+    list: &[i32],
+    window: Window,
+    raster: &mut [u8],
+) -> Result<Marks, Refusal>
+    ensures answered { answered result ≡ paint_answer axis count list.now window raster.old }
     ensures raster_after { raster.new ≡ paint_after axis count list.now window raster.old }
 {
-    let frame = window.check_frame(raster.len());
-    if let Check::Refused(refusal) = frame {
-        return Drawn::Refused(refusal);
-    }
-    if list.len() < 3 * count as usize {
-        return Drawn::Refused(Refusal::RunCount);
-    }
-    let runs = check_runs(count, list);
-    if let Check::Refused(refusal) = runs {
-        return Drawn::Refused(refusal);
-    }
-    Drawn::Marked(paint_all(axis, count, list, window, raster))
+    window.check_frame(raster.len())?;
+    let Some(counted) = list.get(..3 * count as usize) else {
+        return Err(Refusal::RunCount);
+    };
+    check_runs(counted)?;
+    Ok(paint_all(axis, counted, Grid { window }, raster))
 }

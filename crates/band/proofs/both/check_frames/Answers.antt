@@ -1,20 +1,20 @@
--- The first frame's conditions come first; past them the second frame meets 4 or none.
-use Prim.Native.Nat.{ℕ}
+-- The line's conditions come first; where they are passed the second raster's decides.
 use mathlib.Core.Path.{ap, ◌∙◌}
 use mathlib.Core.List.{[], ◌∷◌}
-use Rattle.refusal.specs.Refusal.{first_met, answer}
-use Rattle.refusal.proofs.Handing.{refused_by, passed_by, handed_more}
+use Prim.Native.Nat.{ℕ}
+use Rattle.refusal.specs.Refusal.{answer}
+use Rattle.refusal.proofs.Handing.{passed, handed_err_more}
 use Rattle.raster.specs.Window.{length_off}
 use Rattle.line.specs.Drawing.{line_conditions}
 use Rattle.band.proofs.BothLaws.{second_frame}
 use Rattle.band.proofs.both.check_frames.Goals as goal
 
-pub returns-in-Refused : goal.returns-in-Refused
-returns-in-Refused c = let a = c.args in
-    handed_more c.in-Refused.refusal (line_conditions a.ends a.window a.painted) ((4, length_off a.window a.banded) ∷ []) tt
-    (refused_by c.check_line-check.result (first_met (line_conditions a.ends a.window a.painted)) c.check_line-check.ensures c.in-Refused.refusal c.in-Refused.is)
+pub returns-in_err-check_line : goal.returns-in_err-check_line
+returns-in_err-check_line c = let a = c.args in
+    handed_err_more c.from_residual.result _ c.from_residual.ensures.1 (line_conditions a.ends a.window a.painted)
+    ((4, length_off a.window a.banded) ∷ []) tt c.in_err-check_line.ensures
 
 pub returns : goal.returns
 returns c = let a = c.args in
-    let none = passed_by c.check_line-check.result (first_met (line_conditions a.ends a.window a.painted)) c.check_line-check.ensures c.in_default.is in
-    c.check_frame.ensures ∙ ap (λ (n : ℕ). answer n tt) (second_frame a.ends a.window a.painted a.banded none)
+    c.check_frame.ensures
+    ∙ ap (λ (n : ℕ). answer n tt) (second_frame a.ends a.window a.painted a.banded (passed _ _ c.in_ok-check_line.ensures))

@@ -1,58 +1,81 @@
 -- The raster is the one after the calls made so far; the refused ones among them and their new pixels are added up.
 use Prim.Native.Nat.{◌+◌}
-use mathlib.Core.Path.{ap, ◌∙◌}
+use mathlib.Core.Path.{◌≡◌, sym, ap, ◌∙◌}
 use native.Mathlib.Omega.{arith}
-use lib.ListN.{length}
+use native.Mathlib.Nat.{add-zero}
+use Rattle.std.specs.Prelude.{Result, Ok, Err}
 use Rattle.counting.specs.Count.{each}
+use Rattle.refusal.specs.Refusal.{answered}
+use Rattle.refusal.specs.declared.Refusal.{Refusal}
+use Rattle.raster.specs.declared.drawn.Marks.{Marks}
 use Rattle.band.specs.Calls.{band_at, call_of}
-use Rattle.band.proofs.CallLaws.{bands_length, fresh_most, Called, called_none, called_on, called_all}
-use Rattle.band.proofs.calls.draw_bands.Goals.{After-call_of-call, At-loop-k, Start}
+use Rattle.band.specs.Drawing.{band_answer, band_after}
+use Rattle.band.specs.declared.calls.BandCalls.{BandCalls}
+use Rattle.band.specs.declared.rows.Band.{Band}
+use Rattle.band.proofs.CallLaws.{fresh_most, Called, call_refused, called_none, called_on, called_all}
+use Rattle.band.proofs.Pairs.{pair_at, pair_is}
+use Rattle.band.proofs.calls.draw_bands.Goals.{After-draw_band, in-Ok, in-Err}
 use Rattle.band.proofs.calls.draw_bands.Goals as goal
 
-pub loop-k-init : goal.loop-k-init
-loop-k-init c = let a = c.args in (omega arith, called_none a.ends a.window a.raster.now a.bands.now)
+pub loop-first-init : goal.loop-first-init
+loop-first-init c = called_none c.args.ends c.args.window c.args.raster.now c.args.bands.now
 
-pub call_of-call-requires : goal.call_of-call-requires
-call_of-call-requires c = tt
+-- the call at this place is made
+module _ (c : After-draw_band) where
+  band_is : pair_at c.args.bands.now c.loop-first.first-index ≡ band_at c.args.bands.now c.loop-first.first-index
+  band_is = pair_is c.args.bands.now c.loop-first.first-index (omega (arith, c.as_chunks.ensures.front_len))
 
--- the call at place k is made
-module _ (c : After-call_of-call) where
-  abbrev at : At-loop-k
-  at = (goal.at.After-call_of-call c).At-loop-k
+  told : let b = band_at c.args.bands.now c.loop-first.first-index in
+      answered c.draw_band.result ≡ band_answer c.args.ends c.args.window c.loop-first.raster b.first b.rows
+  told =
+      (rw c.as_chunks.ensures.front at c.draw_band.ensures.answered)
+      ∙ ap (λ (b : Band). band_answer c.args.ends c.args.window c.loop-first.raster b.first b.rows) band_is
 
-  abbrev start : Start
-  start = (goal.at.At-loop-k at).Start
+  leaves : let b = band_at c.args.bands.now c.loop-first.first-index in
+      c.draw_band.new.raster ≡ band_after c.args.ends c.args.window c.loop-first.raster b.first b.rows
+  leaves =
+      (rw c.as_chunks.ensures.front at c.draw_band.ensures.raster_after)
+      ∙ ap (λ (b : Band). band_after c.args.ends c.args.window c.loop-first.raster b.first b.rows) band_is
 
-  called : Called start.args.ends start.args.window start.args.raster.now start.args.bands.now c.draw_band-answer.new.raster
-      (at.loop-k.refused + c.call_of-call.result.refused) (at.loop-k.fresh + c.call_of-call.result.fresh) (at.loop-k.k + 1)
-  called =
-      called_on start.args.ends start.args.window start.args.raster.now start.args.bands.now at.loop-k.raster _
-      at.loop-k.refused at.loop-k.fresh at.loop-k.k c.call_of-call.result at.loop-k.invariant.1
-      c.draw_band-answer.ensures.raster_after (c.call_of-call.ensures ∙ ap call_of c.draw_band-answer.ensures.answered)
+  called : (call : BandCalls) → call ≡ call_of (answered c.draw_band.result)
+      → Called c.args.ends c.args.window c.args.raster.now c.args.bands.now c.draw_band.new.raster
+      (c.loop-first.refused + call.refused) (c.loop-first.fresh + call.fresh) (c.loop-first.first-index + 1)
+  called call e =
+      called_on c.args.ends c.args.window c.args.raster.now c.args.bands.now c.loop-first.raster _ c.loop-first.refused c.loop-first.fresh
+      c.loop-first.first-index call c.loop-first.invariant leaves (e ∙ ap call_of told)
 
-pub overflow_add-refused : goal.overflow_add-refused
-overflow_add-refused c = let x = (goal.at.overflow_add-refused c).After-call_of-call in
-    record { fits = omega (arith, (called x).most, c.loop-k-test.true) }
+  marked : (m : Marks) → c.draw_band.result ≡ Ok m
+      → Called c.args.ends c.args.window c.args.raster.now c.args.bands.now c.draw_band.new.raster
+      c.loop-first.refused (c.loop-first.fresh + m.fresh) (c.loop-first.first-index + 1)
+  marked m e =
+      rw add-zero at (called (record { refused = 0; fresh = m.fresh }) (ap (λ (x : Result Marks Refusal). call_of (answered x)) (sym e)))
+
+  refused : (r : Refusal) → c.draw_band.result ≡ Err r
+      → Called c.args.ends c.args.window c.args.raster.now c.args.bands.now c.draw_band.new.raster
+      (c.loop-first.refused + 1) c.loop-first.fresh (c.loop-first.first-index + 1)
+  refused r e =
+      rw add-zero at (called (record { refused = 1; fresh = 0 }) (sym (call_refused r) ∙ ap (λ (x : Result Marks Refusal). call_of (answered x)) (sym e)))
 
 pub overflow_add-fresh : goal.overflow_add-fresh
-overflow_add-fresh c = let x = (goal.at.overflow_add-fresh c).After-call_of-call in
-    let s = start x in
-    record {
+overflow_add-fresh c =
+    let m = marked (goal.at.overflow_add-fresh c).After-draw_band c.in-Ok.marks c.in-Ok.is in record {
       fits = omega (
         arith,
-        (called x).fresh_is,
-        fresh_most s.args.ends s.args.window s.args.raster.now (λ i _. ((at x).slice_known-1.given i).fits) (each ((at x).loop-k.k + 1) (band_at s.args.bands.now)),
+        m.fresh_is,
+        fresh_most c.args.ends c.args.window c.args.raster.now (λ i _. (c.slice_known-1.given i).fits)
+            (each (c.loop-first.first-index + 1) (band_at c.args.bands.now)),
       );
     }
 
-pub loop-k-preserved : goal.loop-k-preserved
-loop-k-preserved c = (omega arith, called (goal.at.loop-k-preserved c).After-call_of-call)
-
-pub shape_of-raster : goal.shape_of-raster
-shape_of-raster c = let a = c.args in
-    ap length c.loop-k.invariant.1.raster_is ∙ bands_length a.ends a.window a.raster.now _
+pub loop-first-preserved : goal.loop-first-preserved
+loop-first-preserved c =
+    let call = (goal.at.loop-first-preserved c).After-draw_band in
+    elim c.match-draw_band.branch [
+      | in-Ok w ↦ rw (w.refused-is, w.fresh-is) (marked call w.in-Ok.marks w.in-Ok.is)
+      | in-Err w ↦ rw (w.refused-is, w.fresh-is) (refused call w.in-Err.field-0 w.in-Err.is)
+    ]
 
 pub returns : goal.returns
 returns c = let a = c.args in
-    let facts = called_all a.ends a.window a.raster.now a.bands.now _ _ _ c.loop-k.k c.loop-k.invariant.1 (omega arith) in
+    let facts = called_all a.ends a.window a.raster.now a.bands.now _ _ _ c.loop-first.first-index c.loop-first.invariant (omega (arith, c.as_chunks.ensures.front_len)) in
     record { value = facts.0; raster_after = facts.1 }

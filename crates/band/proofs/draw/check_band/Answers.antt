@@ -1,35 +1,22 @@
--- The line's conditions come first; where they are passed the band's decides.
+-- The ends' condition comes first; where it is passed the others decide.
 use Prim.Native.Nat.{ℕ}
-use mathlib.Core.Path.{◌≡◌, sym, ap, ◌∙◌}
-use mathlib.Core.List.{[], ◌∷◌}
-use Rattle.refusal.specs.Refusal.{first_met, answer}
-use Rattle.refusal.proofs.Conditions.{met, unmet, append_passed}
-use Rattle.refusal.proofs.Handing.{refused_by, passed_by, handed_more}
-use Rattle.line.specs.Drawing.{line_conditions}
-use Rattle.line.proofs.Conditions.{line_numbered}
-use Rattle.band.specs.Drawing.{band_out, band_conditions}
-use Rattle.band.proofs.draw.check_band.Goals.{After-band_out}
+use mathlib.Core.Path.{sym, ap, ◌∙◌}
+use lib.Dec.{lit≤}
+use Rattle.refusal.specs.Refusal.{answer}
+use Rattle.refusal.proofs.Conditions.{append_passed}
+use Rattle.refusal.proofs.Handing.{passed, handed_err_more}
+use Rattle.line.specs.Line.{ends_conditions}
+use Rattle.band.specs.Drawing.{rows_conditions}
 use Rattle.band.proofs.draw.check_band.Goals as goal
 
-pub returns-in-Refused : goal.returns-in-Refused
-returns-in-Refused c = let a = c.args in
-    handed_more c.in-Refused.refusal (line_conditions a.ends a.window a.length) ((6, band_out a.window a.first a.rows) ∷ []) tt
-    (refused_by c.check_line-check.result (first_met (line_conditions a.ends a.window a.length)) c.check_line-check.ensures c.in-Refused.refusal c.in-Refused.is)
-
--- the line's conditions are passed, so the band's decides
-module _ (c : After-band_out) where
-  last_decides : let a = c.args in
-      first_met (band_conditions a.ends a.window a.length a.first a.rows) ≡ first_met ((6, band_out a.window a.first a.rows) ∷ [])
-  last_decides =
-      let a = c.args in
-      append_passed (line_conditions a.ends a.window a.length) _ (line_numbered a.ends a.window a.length)
-      (passed_by c.check_line-check.result (first_met (line_conditions a.ends a.window a.length)) c.check_line-check.ensures c.in_default.is)
-
-pub returns-then-band_out : goal.returns-then-band_out
-returns-then-band_out c = let a = c.args in
-    ap (λ (n : ℕ). answer n tt) (sym (last_decides (goal.at.returns-then-band_out c).After-band_out ∙ met 6 (band_out a.window a.first a.rows) [] (sym c.band_out.ensures ∙ c.if-band_out.true)))
+pub returns-in_err-check : goal.returns-in_err-check
+returns-in_err-check c = let a = c.args in
+    handed_err_more c.from_residual.result _ c.from_residual.ensures.1 (ends_conditions a.ends) (rows_conditions a.window a.length a.band.first a.band.rows) tt
+    c.in_err-check.ensures
 
 pub returns : goal.returns
-unfolding first_met
 returns c = let a = c.args in
-    ap (λ (n : ℕ). answer n tt) (sym (last_decides (goal.at.returns c).After-band_out ∙ unmet 6 (band_out a.window a.first a.rows) [] (sym c.band_out.ensures ∙ c.if-band_out.false)))
+    let none = passed _ _ c.in_ok-check.ensures in
+    c.check-2.ensures
+    ∙ ap (λ (n : ℕ). answer n tt)
+    (sym (append_passed (ends_conditions a.ends) (rows_conditions a.window a.length a.band.first a.band.rows) (lit≤ tt, tt) none))

@@ -9,12 +9,6 @@ use Rattle.coordinate.specs.Coordinate.{lowest, unbiased}
 use Rattle.coordinate.proofs.Bias.{unbiased_in, in_range_fits}
 use Rattle.coordinate.proofs.Coordinate.unbiased.Goals as goal
 
-pub overflow_add-result : goal.overflow_add-result
-unfolding unbiased
-overflow_add-result c =
-    rw (to_z-of_z w32 (pos c.args.n) (record { sfits = omega arith }))
-    (record { sfits = in_range_fits (unbiased c.args.n) (unbiased_in c.args.n c.requires) })
-
 pub returns : goal.returns
 unfolding unbiased
 returns c =

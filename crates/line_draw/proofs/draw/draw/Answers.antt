@@ -1,70 +1,68 @@
 -- Each return is a case of the law of what a drawer answers and leaves.
-use mathlib.Core.Path.{◌≡◌, ap, ◌∙◌}
-use lib.ListN.{length}
+use Rattle.std.proofs.Common.{◌≡◌, ◌∙◌, length, arith}
 use Rattle.raster.proofs.Frames.{window_in}
-use Rattle.raster.proofs.Plus.{plus-length}
-use Rattle.refusal.proofs.Handing.{refused_by, passed_by}
-use Rattle.line.specs.declared.ends.Ends.{Ends}
+use Rattle.raster.proofs.Grids.{length_in}
+use Rattle.raster.specs.Window.{frame_conditions}
+use Rattle.refusal.specs.Refusal.{first_met}
+use Rattle.refusal.proofs.Handing.{passed, err_is}
 use Rattle.line.proofs.Conditions.{ends_in, frame_in}
-use Rattle.line_draw.specs.Walk.{Visible}
 use Rattle.line_draw.proofs.Whole.{shown_visible}
-use Rattle.line_draw.proofs.Marking.{Walked}
+use Rattle.line_draw.proofs.Marking.{Of, entered, own_shown, own_walked, own_window}
 use Rattle.line_draw.proofs.Drawn.{number, drawn_refused, drawn_unseen, drawn_walked}
-use Rattle.line_draw.proofs.draw.draw.Goals.{After-visible_steps-steps, In_default, Start}
+use Rattle.line_draw.proofs.draw.draw.Given.{Over}
+use Rattle.line_draw.proofs.draw.draw.Goals.{After-enter-walker, In_ok-check_line}
 use Rattle.line_draw.proofs.draw.draw.Goals as goal
 
-pub returns-in-Refused : goal.returns-in-Refused
-returns-in-Refused c = let a = c.args in
-    let facts = drawn_refused a.ends a.window a.raster.now c.in-Refused.refusal
-    (refused_by c.check_line-check.result (number a.ends a.window a.raster.now) c.check_line-check.ensures c.in-Refused.refusal c.in-Refused.is) in
-    record { answered = facts.0; raster_after = facts.1 }
+pub returns-in_err-check_line : goal.returns-in_err-check_line
+returns-in_err-check_line g c =
+    let facts = drawn_refused c.args.ends c.args.window c.args.raster.now c.in_err-check_line.field-0.0 c.in_err-check_line.ensures in
+    record { answered = err_is _ _ c.from_residual.ensures.1 ∙ facts.0; raster_after = facts.1 }
 
 -- no condition is met
-module _ (c : In_default) where
-  abbrev entry : Start
-  entry = (goal.at.In_default c).Start
-
-  abbrev ends : Ends
-  ends = entry.args.ends
-
-  within : number entry.args.ends entry.args.window entry.args.raster.now ≡ 0
-  within =
-      passed_by c.check_line-check.result (number entry.args.ends entry.args.window entry.args.raster.now) c.check_line-check.ensures c.in_default.is
+none_met : (g : Over) (c : In_ok-check_line g) → number c.args.ends c.args.window c.args.raster.now ≡ 0
+none_met g c = passed _ _ c.in_ok-check_line.ensures
 
 pub line_of-line-requires : goal.line_of-line-requires
-line_of-line-requires c = ends_in (entry c).args.ends (entry c).args.window _ (within c)
+line_of-line-requires g c = ends_in c.args.ends c.args.window _ (none_met g c)
 
-pub visible_steps-steps-requires : goal.visible_steps-steps-requires
-visible_steps-steps-requires c = let s = entry (goal.at.visible_steps-steps-requires c).In_default in
-    (c.line_of-line.ensures.1, window_in s.args.window _ (frame_in s.args.ends s.args.window _ (within (goal.at.visible_steps-steps-requires c).In_default)))
+within : (g : Over) (c : In_ok-check_line g) → first_met (frame_conditions c.args.window (length c.args.raster.now)) ≡ 0
+within g c = frame_in c.args.ends c.args.window _ (none_met g c)
 
--- the visible steps are those of the ends
-module _ (c : After-visible_steps-steps) where
-  visible : Visible (entry (goal.at.After-visible_steps-steps c).In_default).args.ends (entry (goal.at.After-visible_steps-steps c).In_default).args.window c.visible_steps-steps.result
-  visible = rw c.line_of-line.ensures.0 at c.visible_steps-steps.ensures
+pub invariant_of-grid : goal.invariant_of-grid
+invariant_of-grid g c = record { within = window_in _ _ (within g (goal.at.invariant_of-grid g c).In_ok-check_line) }
 
-pub returns-then-end-from : goal.returns-then-end-from
-returns-then-end-from c = let s = entry (goal.at.returns-then-end-from c).In_default in
-    let facts = drawn_unseen s.args.ends s.args.window s.args.raster.now (within (goal.at.returns-then-end-from c).In_default) _ (visible (goal.at.returns-then-end-from c).After-visible_steps-steps)
-    (λ i _. (c.type_inv.raster i).fits) c.if-end-from.true in
+pub returns-then-steps : goal.returns-then-steps
+returns-then-steps g c =
+    let a = c.args in
+    let none = none_met g (goal.at.returns-then-steps g c).In_ok-check_line in
+    let facts = drawn_unseen a.ends a.window a.raster.now none c.visible_steps-steps.result (rw c.line_of-line.ensures at c.visible_steps-steps.ensures)
+    (λ i _. (c.type_inv.raster i).fits) (omega arith) in
     record { answered = facts.0; raster_after = facts.1 }
 
-pub walk_by-fresh-requires : goal.walk_by-fresh-requires
-walk_by-fresh-requires c = let s = entry (goal.at.walk_by-fresh-requires c).In_default in (
-  c.line_of-line.ensures.1,
-  frame_in s.args.ends s.args.window _ (within (goal.at.walk_by-fresh-requires c).In_default),
-  shown_visible _ _ _ c.visible_steps-steps.ensures c.if-end-from.false,
-)
+pub enter-walker-requires : goal.enter-walker-requires
+enter-walker-requires g c =
+    let shown = shown_visible _ _ _ c.visible_steps-steps.ensures (omega arith) in
+    (omega (arith, shown.some, shown.most, c.line_of-line.result.traced.long_is), shown.all _ (omega arith) shown.some)
 
-pub shape_of-raster : goal.shape_of-raster
-shape_of-raster c = ap length c.walk_by-fresh.ensures.raster_after ∙ plus-length _ _ _
+-- the walker that enters
+entered_at : (g : Over) (c : After-enter-walker g) → Of c.line_of-line.result.ends c.args.window c.enter-walker.result
+entered_at g c = entered c.enter-walker.ensures.0 c.enter-walker.ensures.1
+
+pub walk-fresh-requires : goal.walk-fresh-requires
+walk-fresh-requires g c =
+    let at = entered_at g (goal.at.walk-fresh-requires g c).After-enter-walker in
+    let shown = shown_visible _ _ _ c.visible_steps-steps.ensures (omega arith) in (
+      own_window at _ (length_in _ _ (within g (goal.at.walk-fresh-requires g c).In_ok-check_line)),
+      own_shown at (rw c.enter-walker.ensures.2 shown),
+    )
 
 pub returns : goal.returns
-returns c =
-    let after = (goal.at.returns c).After-visible_steps-steps in
-    let s = entry (goal.at.returns c).In_default in
+returns g c =
+    let a = c.args in
+    let none = none_met g (goal.at.returns g c).In_ok-check_line in
     let v = c.visible_steps-steps.result in
-    let walked : Walked s.args.ends s.args.window s.args.raster.now v.from v.end c.walk_by-fresh.new.raster c.walk_by-fresh.result =
-    (rw c.line_of-line.ensures.0 at c.walk_by-fresh.ensures.raster_after, c.walk_by-fresh.ensures.bits_grow) in
-    let drawn = drawn_walked s.args.ends s.args.window s.args.raster.now (within (goal.at.returns c).In_default) v (visible after) _ _ walked in
-    record { answered = drawn.0; raster_after = drawn.1 }
+    let walked = own_walked (entered_at g (goal.at.returns g c).After-enter-walker) a.raster.now _ v.from v.end c.enter-walker.ensures.2
+    c.walk-fresh.ensures.raster_after c.walk-fresh.ensures.bits_grow in
+    let facts = drawn_walked a.ends a.window a.raster.now none v (rw c.line_of-line.ensures at c.visible_steps-steps.ensures) _ _
+    (rw c.line_of-line.ensures at walked) in
+    record { answered = rw (c.from.ensures, c.from-2.ensures) facts.0; raster_after = facts.1 }

@@ -3,6 +3,8 @@ use Rattle.line_draw.proofs.Intervals.{both}
 use Rattle.line_draw.proofs.visible.both_of.Goals as goal
 
 pub returns : goal.returns
-returns c = both c.args.a c.args.b _ c.requires.0 c.requires.2
-    (rw (← c.first_step.ensures) c.larger-from.ensures)
-    (rw (← c.first_step-2.ensures) c.smaller-end.ensures)
+returns c =
+    let s = c.args.slope in
+    both c.args.a c.args.b _ s.rounding s.short_most
+    (rw (← c.first_step.ensures) c.max-from.ensures)
+    (rw (← c.first_step-2.ensures) c.min-end.ensures)

@@ -1,71 +1,69 @@
--- Three steps and a last one: where one finds no number the words are not four numbers.
-use borrow.Author.Rules.{rules}
-use mathlib.Core.Path.{subst}
+-- Each step takes the first of the words that are left, and four words that are numbers make the line.
+use Rattle.std.proofs.Common.{rules, tests, ◌≡◌, ◌∷◌, sym, ◌∙◌}
 use mir.Syntax.{w32}
 use mir.ValLaws.{to_z-of_z}
-use Rattle.lineruns_text.specs.declared.read.Next.TheVariants.{Number as NextNumber}
-use Rattle.lineruns_text.specs.Answers.{Step, LastStep}
-use Rattle.lineruns_text.proofs.Fours.{first_refused, second_refused, third_refused, fourth_refused, all_taken}
-use Rattle.lineruns_text.proofs.read.four_numbers.Goals.{In-Number, In-Number-next_number, In-Number-next_number-2}
+use Rattle.lineruns_text.specs.Reading.{words, four}
+use Rattle.lineruns_text.proofs.Fours.{bad_first, bad_second, bad_third, bad_fourth, all_four}
+use Rattle.lineruns_text.proofs.Splitting.{left, words_left, one_left}
+use Rattle.lineruns_text.proofs.read.four_numbers.Goals.{In_ok-next, In_ok-next-2, In_ok-next-3, In_ok-next-4}
 use Rattle.lineruns_text.proofs.read.four_numbers.Goals as goal
 
--- what the steps that found a number say
-one : (c : In-Number) → Step c.args.text.now 0 (NextNumber c.in-Number.x0 c.in-Number.second)
-one c =
-    subst (Step c.args.text.now 0) c.in-Number.is c.next_number.ensures
+first : (c : In_ok-next) → words c.args.text.now ≡ c.in_ok-next.field-0.now ∷ left c.next.new.self.rest.now c.next.new.self.done
+first c =
+    words_left c.args.text.now c.split-words.result c.split-words.ensures.rest c.split-words.ensures.done
+    ∙ one_left _ c.split-words.result c.next.new.self c.in_ok-next.field-0 (rw c.in_ok-next.was at c.next.ensures.steps) (λ a r q k. search (rules, tests))
 
-two : (c : In-Number-next_number) → Step c.args.text.now c.in-Number.second (NextNumber c.in-Number-next_number.y0 c.in-Number-next_number.third)
-two c =
-    subst (Step c.args.text.now c.in-Number.second) c.in-Number-next_number.is c.next_number-2.ensures
+second : (c : In_ok-next-2) → left c.next.new.self.rest.now c.next.new.self.done ≡ c.in_ok-next-2.field-0.now ∷ left c.next-2.new.self.rest.now c.next-2.new.self.done
+second c = one_left _ c.next.new.self c.next-2.new.self c.in_ok-next-2.field-0 (rw c.in_ok-next-2.was at c.next-2.ensures.steps) (λ a r q k. search (rules, tests))
 
-three : (c : In-Number-next_number-2) → Step c.args.text.now c.in-Number-next_number.third (NextNumber c.in-Number-next_number-2.x1 c.in-Number-next_number-2.fourth)
-three c =
-    subst (Step c.args.text.now c.in-Number-next_number.third) c.in-Number-next_number-2.is c.next_number-3.ensures
+third : (c : In_ok-next-3) → left c.next-2.new.self.rest.now c.next-2.new.self.done ≡ c.in_ok-next-3.field-0.now ∷ left c.next-3.new.self.rest.now c.next-3.new.self.done
+third c = one_left _ c.next-2.new.self c.next-3.new.self c.in_ok-next-3.field-0 (rw c.in_ok-next-3.was at c.next-3.ensures.steps) (λ a r q k. search (rules, tests))
 
-pub returns-in_default : goal.returns-in_default
-returns-in_default c = let text = c.args.text.now in
-    first_refused text (subst (Step text 0) c.in_default.is c.next_number.ensures)
+fourth : (c : In_ok-next-4) → left c.next-3.new.self.rest.now c.next-3.new.self.done ≡ c.in_ok-next-4.field-0.now ∷ left c.next-4.new.self.rest.now c.next-4.new.self.done
+fourth c = one_left _ c.next-3.new.self c.next-4.new.self c.in_ok-next-4.field-0 (rw c.in_ok-next-4.was at c.next-4.ensures.steps) (λ a r q k. search (rules, tests))
 
-pub next_number-requires-2 : goal.next_number-requires-2
-next_number-requires-2 c = (one c).0
+pub returns-in_err-x0 : goal.returns-in_err-x0
+returns-in_err-x0 c =
+    c.from_residual-in_err-x0.ensures ∙ sym (rw (first (goal.at.returns-in_err-x0 c).In_ok-next) (bad_first _ _ (sym c.number.ensures ∙ c.in_err-x0.was)))
 
-pub returns-in_default-next_number : goal.returns-in_default-next_number
-returns-in_default-next_number c = let k = (goal.at.returns-in_default-next_number c).In-Number in
-    let text = c.args.text.now in
-    second_refused text c.in-Number.x0 c.in-Number.second (one k)
-    (subst (Step text c.in-Number.second) c.in_default-next_number.is c.next_number-2.ensures)
+pub returns-in_err-next-2 : goal.returns-in_err-next-2
+unfolding four
+returns-in_err-next-2 c =
+    let end = rw c.in_err-next-2.was at c.next-2.ensures.steps in
+    c.from_residual-in_err-next-2.ensures ∙ sym (rw (first (goal.at.returns-in_err-next-2 c).In_ok-next, end.0))
 
-pub next_number-requires-3 : goal.next_number-requires-3
-next_number-requires-3 c = (two c).0
+pub returns-in_err-y0 : goal.returns-in_err-y0
+returns-in_err-y0 c =
+    c.from_residual-in_err-y0.ensures ∙ sym (rw (first (goal.at.returns-in_err-y0 c).In_ok-next, second (goal.at.returns-in_err-y0 c).In_ok-next-2) (bad_second _ _ _ (sym c.number-2.ensures ∙ c.in_err-y0.was)))
 
-pub returns-in_default-next_number-2 : goal.returns-in_default-next_number-2
-returns-in_default-next_number-2 c = let l = (goal.at.returns-in_default-next_number-2 c).In-Number-next_number in
-    let k = (goal.at.returns-in_default-next_number-2 c).In-Number in
-    let text = c.args.text.now in
-    third_refused text c.in-Number.x0 c.in-Number.second (one k) c.in-Number-next_number.y0 c.in-Number-next_number.third (two l)
-    (subst (Step text c.in-Number-next_number.third) c.in_default-next_number-2.is c.next_number-3.ensures)
+pub returns-in_err-next-3 : goal.returns-in_err-next-3
+unfolding four
+returns-in_err-next-3 c =
+    let end = rw c.in_err-next-3.was at c.next-3.ensures.steps in
+    c.from_residual-in_err-next-3.ensures ∙ sym (rw (first (goal.at.returns-in_err-next-3 c).In_ok-next, second (goal.at.returns-in_err-next-3 c).In_ok-next-2, end.0))
 
-pub last_number-requires : goal.last_number-requires
-last_number-requires c = (three c).0
+pub returns-in_err-x1 : goal.returns-in_err-x1
+returns-in_err-x1 c =
+    c.from_residual-in_err-x1.ensures ∙ sym (rw (first (goal.at.returns-in_err-x1 c).In_ok-next, second (goal.at.returns-in_err-x1 c).In_ok-next-2, third (goal.at.returns-in_err-x1 c).In_ok-next-3) (bad_third _ _ _ _ (sym c.number-3.ensures ∙ c.in_err-x1.was)))
 
-pub returns-in_default-last_number : goal.returns-in_default-last_number
-returns-in_default-last_number c = let m = (goal.at.returns-in_default-last_number c).In-Number-next_number-2 in
-    let l = (goal.at.returns-in_default-last_number c).In-Number-next_number in
-    let k = (goal.at.returns-in_default-last_number c).In-Number in
-    let text = c.args.text.now in
-    fourth_refused text c.in-Number.x0 c.in-Number.second (one k) c.in-Number-next_number.y0 c.in-Number-next_number.third (two l) c.in-Number-next_number-2.x1 c.in-Number-next_number-2.fourth (three m)
-    (subst (LastStep text c.in-Number-next_number-2.fourth) c.in_default-last_number.is c.last_number.ensures)
+pub returns-in_err-next-4 : goal.returns-in_err-next-4
+unfolding four
+returns-in_err-next-4 c =
+    let end = rw c.in_err-next-4.was at c.next-4.ensures.steps in
+    c.from_residual-in_err-next-4.ensures ∙ sym (rw (first (goal.at.returns-in_err-next-4 c).In_ok-next, second (goal.at.returns-in_err-next-4 c).In_ok-next-2, third (goal.at.returns-in_err-next-4 c).In_ok-next-3, end.0))
 
-pub returns : goal.returns
-returns c = let m = (goal.at.returns c).In-Number-next_number-2 in
-    let l = (goal.at.returns c).In-Number-next_number in
-    let k = (goal.at.returns c).In-Number in
-    let text = c.args.text.now in
-    let last = subst (LastStep text c.in-Number-next_number-2.fourth) c.in-Number-last_number.is c.last_number.ensures in
-    rw (
-      to_z-of_z w32 c.in-Number.x0 (record { sfits = search rules }),
-      to_z-of_z w32 c.in-Number-next_number.y0 (record { sfits = search rules }),
-      to_z-of_z w32 c.in-Number-next_number-2.x1 (record { sfits = search rules }),
-      to_z-of_z w32 c.in-Number-last_number.y1 (record { sfits = search rules }),
-    )
-    (all_taken text c.in-Number.x0 c.in-Number.second (one k) c.in-Number-next_number.y0 c.in-Number-next_number.third (two l) c.in-Number-next_number-2.x1 c.in-Number-next_number-2.fourth (three m) c.in-Number-last_number.y1 last)
+pub returns-in_err-y1 : goal.returns-in_err-y1
+returns-in_err-y1 c =
+    c.from_residual-in_err-y1.ensures ∙ sym (rw (first (goal.at.returns-in_err-y1 c).In_ok-next, second (goal.at.returns-in_err-y1 c).In_ok-next-2, third (goal.at.returns-in_err-y1 c).In_ok-next-3, fourth (goal.at.returns-in_err-y1 c).In_ok-next-4) (bad_fourth _ _ _ _ _ (sym c.number-4.ensures ∙ c.in_err-y1.was)))
+
+pub returns-in-Some : goal.returns-in-Some
+unfolding four
+returns-in-Some c =
+    let more = one_left _ c.next-4.new.self c.next-5.new.self c.in-Some.field-0 (rw c.in-Some.is at c.next-5.ensures.steps) (λ a r q k. search (rules, tests)) in
+    sym (rw (first (goal.at.returns-in-Some c).In_ok-next, second (goal.at.returns-in-Some c).In_ok-next-2, third (goal.at.returns-in-Some c).In_ok-next-3, fourth (goal.at.returns-in-Some c).In_ok-next-4, more))
+
+pub returns-in-None : goal.returns-in-None
+returns-in-None c =
+    let end = rw c.in-None.is at c.next-5.ensures.steps in
+    sym (rw (first (goal.at.returns-in-None c).In_ok-next, second (goal.at.returns-in-None c).In_ok-next-2, third (goal.at.returns-in-None c).In_ok-next-3, fourth (goal.at.returns-in-None c).In_ok-next-4, end.0, to_z-of_z w32 c.in_ok-x0.x0 (search rules), to_z-of_z w32 c.in_ok-y0.y0 (search rules), to_z-of_z w32 c.in_ok-x1.x1 (search rules), to_z-of_z w32 c.in_ok-y1.y1 (search rules))
+    (all_four _ _ _ _ _ _ _ _ (sym c.number.ensures ∙ c.in_ok-x0.was) (sym c.number-2.ensures ∙ c.in_ok-y0.was) (sym c.number-3.ensures ∙ c.in_ok-x1.was) (sym c.number-4.ensures ∙ c.in_ok-y1.was)))

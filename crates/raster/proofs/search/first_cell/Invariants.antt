@@ -2,32 +2,27 @@
 use Prim.Native.Nat.{ℕ, ◌+◌, ◌-◌, ◌*◌, ◌≤◌}
 use mathlib.Core.List.{List}
 use mathlib.Core.Path.{◌≡◌}
+use Rattle.std.specs.Prelude.{Option, None}
 use Rattle.raster.specs.declared.search.Cell.{Cell}
-use Rattle.raster.specs.declared.search.Cell.TheVariants.{Nothing}
 use Rattle.raster.proofs.Passing.{Passed, RowsPassed}
 use Rattle.raster.proofs.search.first_cell.Given as goal
 
-pub record RowsDone (raster : List ℕ) (bytes width height : ℕ) (cell : Cell) (row start : ℕ) : Type 0 where
-  pub in_height : row ≤ height
+pub record RowsDone (raster : List ℕ) (bytes width : ℕ) (cell : Option Cell) (row start : ℕ) : Type 0 where
   pub start_is : start ≡ row * bytes
-  pub nothing : cell ≡ Nothing
+  pub nothing : cell ≡ None
   pub passed : RowsPassed raster bytes width row
 
-pub record BytesDone (raster : List ℕ) (bytes width row : ℕ) (cell : Cell) (byte : ℕ) : Type 0 where
+pub record BytesDone (raster : List ℕ) (bytes width row : ℕ) (cell : Option Cell) (byte : ℕ) : Type 0 where
   pub in_row : byte ≤ bytes
-  pub nothing : cell ≡ Nothing
+  pub nothing : cell ≡ None
   pub passed : Passed raster bytes width row (byte * 8)
 
-pub record BitsDone (raster : List ℕ) (bytes width row byte : ℕ) (cell : Cell) (bit : ℕ) : Type 0 where
-  pub in_byte : bit ≤ 8
-  pub nothing : cell ≡ Nothing
+pub record BitsDone (raster : List ℕ) (bytes width row byte : ℕ) (cell : Option Cell) (bit : ℕ) : Type 0 where
+  pub nothing : cell ≡ None
   pub passed : Passed raster bytes width row (byte * 8 + bit)
 
 abbrev pub invariant-loop-bit : goal.invariant-loop-bit
 invariant-loop-bit l = BitsDone l.raster l.bytes l.width l.row l.byte l.cell l.bit
-
-abbrev pub decreases-loop-bit : goal.decreases-loop-bit
-decreases-loop-bit l = 8 - l.bit
 
 abbrev pub invariant-loop-byte : goal.invariant-loop-byte
 invariant-loop-byte l = BytesDone l.raster l.bytes l.width l.row l.cell l.byte
@@ -36,7 +31,4 @@ abbrev pub decreases-loop-byte : goal.decreases-loop-byte
 decreases-loop-byte l = l.bytes - l.byte
 
 abbrev pub invariant-rows : goal.invariant-rows
-invariant-rows l = RowsDone l.raster l.bytes l.width l.height l.cell l.row l.start
-
-abbrev pub decreases-rows : goal.decreases-rows
-decreases-rows l = l.height - l.row
+invariant-rows l = RowsDone l.raster l.bytes l.width l.cell l.row l.start

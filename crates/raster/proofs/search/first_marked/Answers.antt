@@ -1,63 +1,47 @@
--- A refusal is handed on; a cell is in the window, so left and top added it is a pixel of the frame.
+-- A cell is in the window, so left and top added it is a pixel of the frame.
 use mathlib.Core.Path.{◌≡◌, sym, ap, ◌∙◌}
-use Prim.Native.Nat.{ℕ}
-use mathlib.Core.List.{List}
 use native.Mathlib.Omega.{arith}
 use lib.ListN.{length}
-use Rattle.refusal.specs.Refusal.{given, first_met}
-use Rattle.refusal.proofs.Handing.{refused_by, passed_by, handed_on}
-use Rattle.raster.specs.Window.{frame_conditions}
-use Rattle.raster.specs.Search.{first_number, first_marked, cell_of}
-use Rattle.raster.specs.declared.window.Window.{Window}
-use Rattle.raster.specs.declared.search.Cell.TheVariants.{At}
-use Rattle.raster.proofs.Frames.{Frame, frame}
+use Rattle.std.specs.Prelude.{Some}
+use Rattle.refusal.specs.Refusal.{given}
+use Rattle.refusal.proofs.Handing.{passed}
+use Rattle.raster.specs.Search.{first_number, cell_of}
+use Rattle.raster.proofs.Frames.{Frame, frame, window_in}
+use Rattle.raster.proofs.Grids.{length_in}
 use Rattle.raster.proofs.Placing.{cell_small, column_fits, row_fits, found_is, none_is}
-use Rattle.raster.proofs.search.first_marked.Goals.{In-At, In_default}
+use Rattle.raster.proofs.search.first_marked.Goals.{In-Some}
 use Rattle.raster.proofs.search.first_marked.Goals as goal
 
-pub returns-in-Refused : goal.returns-in-Refused
-returns-in-Refused c = let args = c.args in
-    let number = first_met (frame_conditions args.window (length args.raster.now)) in
-    handed_on c.in-Refused.refusal number (first_marked args.window args.raster.now)
-    (refused_by c.check_frame-check.result number c.check_frame-check.ensures c.in-Refused.refusal c.in-Refused.is)
+pub invariant_of-first_cell : goal.invariant_of-first_cell
+invariant_of-first_cell c = record { within = window_in _ _ (passed _ _ c.in_ok-check_frame.ensures) }
 
-module _ (c : In_default) where
-  passed : first_met (frame_conditions c.args.window (length c.args.raster.now)) ≡ 0
-  passed = passed_by c.check_frame-check.result _ c.check_frame-check.ensures c.in_default.is
+pub first_cell-requires : goal.first_cell-requires
+first_cell-requires c = length_in _ _ (passed _ _ c.in_ok-check_frame.ensures)
 
-pub first_cell-cell-requires : goal.first_cell-cell-requires
-first_cell-cell-requires c = passed c
+pub returns-in_default : goal.returns-in_default
+returns-in_default c =
+    rw (passed _ _ c.in_ok-check_frame.ensures) (ap given (none_is c.args.window c.args.raster.now (sym c.in_default.is ∙ c.first_cell.ensures)))
 
 -- the frame, and the cell that was found in it
-module _ (c : In-At) where
-  abbrev window : Window
-  window = c.args.window
+module _ (c : In-Some) where
+  in_frame : Frame c.args.window (length c.args.raster.now)
+  in_frame = frame c.args.window (length c.args.raster.now) (passed _ _ c.in_ok-check_frame.ensures)
 
-  abbrev bytes : List ℕ
-  bytes = c.args.raster.now
+  told : Some c.in-Some.cell ≡ cell_of c.args.window.width (first_number c.args.window c.args.raster.now)
+  told = sym c.in-Some.is ∙ c.first_cell.ensures
 
-  in_frame : Frame window (length bytes)
-  in_frame = frame window (length bytes) (passed (goal.at.In-At c).In_default)
+pub overflow_cast-result : goal.overflow_cast-result
+overflow_cast-result c = let p = (goal.at.overflow_cast-result c).In-Some in record { sfits = omega (arith, cell_small _ _ _ (in_frame p) _ _ (told p)) }
 
-  cell_told : At c.in-At.column c.in-At.row ≡ cell_of window.width (first_number window bytes)
-  cell_told = sym c.in-At.is ∙ c.first_cell-cell.ensures
+pub overflow_add-result : goal.overflow_add-result
+overflow_add-result c = let p = (goal.at.overflow_add-result c).In-Some in column_fits _ p.args.raster.now _ (in_frame p) _ _ (told p)
 
-pub overflow_cast-pixel : goal.overflow_cast-pixel
-overflow_cast-pixel c = record { sfits = omega (arith, cell_small _ _ _ (in_frame c) _ _ (cell_told c)) }
+pub overflow_cast-result-2 : goal.overflow_cast-result-2
+overflow_cast-result-2 c = let p = (goal.at.overflow_cast-result-2 c).In-Some in record { sfits = omega (arith, cell_small _ _ _ (in_frame p) _ _ (told p)) }
 
-pub overflow_add-pixel : goal.overflow_add-pixel
-overflow_add-pixel c = column_fits _ (bytes (goal.at.overflow_add-pixel c).In-At) _ (in_frame (goal.at.overflow_add-pixel c).In-At) _ _ (cell_told (goal.at.overflow_add-pixel c).In-At)
+pub overflow_add-result-2 : goal.overflow_add-result-2
+overflow_add-result-2 c = let p = (goal.at.overflow_add-result-2 c).In-Some in row_fits _ p.args.raster.now _ (in_frame p) _ _ (told p)
 
-pub overflow_cast-pixel-in-At : goal.overflow_cast-pixel-in-At
-overflow_cast-pixel-in-At c = record { sfits = omega (arith, cell_small _ _ _ (in_frame (goal.at.overflow_cast-pixel-in-At c).In-At) _ _ (cell_told (goal.at.overflow_cast-pixel-in-At c).In-At)) }
-
-pub overflow_add-pixel-in-At : goal.overflow_add-pixel-in-At
-overflow_add-pixel-in-At c = row_fits _ (bytes (goal.at.overflow_add-pixel-in-At c).In-At) _ (in_frame (goal.at.overflow_add-pixel-in-At c).In-At) _ _ (cell_told (goal.at.overflow_add-pixel-in-At c).In-At)
-
-pub returns-in-At : goal.returns-in-At
-returns-in-At c = rw (passed (goal.at.returns-in-At c).In_default) (ap given (found_is (window (goal.at.returns-in-At c).In-At) (bytes (goal.at.returns-in-At c).In-At) _ (in_frame (goal.at.returns-in-At c).In-At) _ _ (cell_told (goal.at.returns-in-At c).In-At)))
-
-pub returns-in-Nothing : goal.returns-in-Nothing
-returns-in-Nothing c = let s = c.args in
-    rw (passed (goal.at.returns-in-Nothing c).In_default)
-    (ap given (none_is s.window s.raster.now (sym c.in-Nothing.is ∙ c.first_cell-cell.ensures)))
+pub returns : goal.returns
+returns c = let p = (goal.at.returns c).In-Some in
+    rw (passed _ _ c.in_ok-check_frame.ensures) (ap given (found_is p.args.window p.args.raster.now _ (in_frame p) _ _ (told p)))

@@ -18,9 +18,6 @@ returns-then-out_of_range c = let out : out_of_range c.args.z ≡ true =
     ap out_of_range (sym (to_z-of_z c.ranges.z)) ∙ sym c.out_of_range.ensures ∙ c.if-out_of_range.true in
     rw out
 
-pub biased-requires : goal.biased-requires
-biased-requires c = sym c.out_of_range.ensures ∙ c.if-out_of_range.false
-
 -- what is known after the first test
 module _ (c : After-biased) where
   z_in : out_of_range c.args.z ≡ false

@@ -1,41 +1,25 @@
--- No coordinate passed is out of range.
-use mathlib.Core.Path.{◌≡◌, sym, ap, ◌∙◌}
-use native.Mathlib.Omega.{arith}
+-- The test of each number below their count is the definition's.
+use Prim.Native.Nat.{ℕ, ◌/◌}
+use mathlib.Core.Path.{refl, sym, ap, ◌∙◌}
 use lib.IntN.{pos}
+use native.Mathlib.Omega.{arith}
 use lib.ListN.{length, get_or}
-use mir.Syntax.{w32}
-use mir.ValLaws.{to_z-of_z}
-use Rattle.counting.proofs.Any.{any-zero, any_more, any_make}
+use borrow.Author.Tests.{tests}
+use Rattle.std.proofs.Common.{rules}
+use Rattle.std.proofs.lemmas.Iterator.{YieldsList-from_range}
+use Rattle.std.proofs.lemmas.Iterator.Search.{any_from_yields_List}
+use Rattle.counting.specs.Count.{any}
 use Rattle.coordinate.specs.Coordinate.{out_of_range}
 use Rattle.reel.specs.Reel.{coordinates_out, coordinates}
 use Rattle.reel.proofs.Records.{coordinates-length}
-use Rattle.reel.proofs.coordinates.coordinates_out.Goals.{After-out_of_range}
+use Rattle.reel.proofs.Chains.{range_any_is}
 use Rattle.reel.proofs.coordinates.coordinates_out.Goals as goal
-
-pub loop-k-init : goal.loop-k-init
-loop-k-init c = (omega arith, any-zero _)
-
-pub out_of_range-requires : goal.out_of_range-requires
-out_of_range-requires c = tt
-
--- the test is that of the coordinate at place k
-module _ (c : After-out_of_range) where
-  tested : c.out_of_range.result ≡ out_of_range (get_or (coordinates c.args.bytes.now) c.loop-k.k (pos 0))
-  tested =
-      c.out_of_range.ensures ∙ ap out_of_range (to_z-of_z w32 c.coordinate_at.result (record { sfits = c.coordinate_at.type_inv }) ∙ c.coordinate_at.ensures)
-
-pub returns-then-out_of_range : goal.returns-then-out_of_range
-unfolding coordinates_out
-returns-then-out_of_range c = let s = c.args.bytes.now in
-    sym
-    (any_make (length (coordinates s)) _ c.loop-k.k (omega (arith, coordinates-length s, c.loop-k-test.true))
-    (sym (tested (goal.at.returns-then-out_of_range c).After-out_of_range) ∙ c.if-out_of_range.true))
-
-pub loop-k-preserved : goal.loop-k-preserved
-loop-k-preserved c = (omega arith, any_more c.loop-k.k _ c.loop-k.invariant.1 (sym (tested (goal.at.loop-k-preserved c).After-out_of_range) ∙ c.if-out_of_range.false))
 
 pub returns : goal.returns
 unfolding coordinates_out
 returns c = let s = c.args.bytes.now in
-    let all : c.loop-k.k ≡ length (coordinates s) = omega (arith, coordinates-length s) in
-    sym (rw all at c.loop-k.invariant.1)
+    let n = length s / 2 in
+    let out = λ (k : ℕ). out_of_range (get_or (coordinates s) k (pos 0)) in
+    any_from_yields_List out _ _ c.any.result c.any.ensures.ran (YieldsList-from_range 0 n n refl (omega arith)) (λ x b q k. search (rules, tests))
+    ∙ range_any_is n out
+    ∙ ap (λ (m : ℕ). any m out) (sym (coordinates-length s))

@@ -1,9 +1,7 @@
--- Two halves, the low one first.
-use mathlib.Core.Path.{◌∙◌, ap₂}
-use Prim.Native.Nat.{ℕ, ◌+◌, ◌*◌}
-use Rattle.reel.proofs.Halves.{number_halves}
+-- The definition's four bytes, the low one first.
+use mathlib.Core.Path.{◌∙◌}
+use Rattle.reel.proofs.Bytes.{four_read}
 use Rattle.reel.proofs.number.word.Goals as goal
 
 pub returns : goal.returns
-returns c = let a = c.args in
-    ap₂ (λ (x y : ℕ). x + 65536 * y) c.half.ensures.0 c.half-2.ensures.0 ∙ number_halves a.bytes.now a.at
+returns c = c.from_le_bytes.ensures ∙ four_read c.args.bytes.now c.args.at

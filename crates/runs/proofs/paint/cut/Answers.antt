@@ -7,7 +7,7 @@ use mir.Facts.{to_z-of_z}
 use Rattle.coordinate.specs.Coordinate.{biased}
 use Rattle.coordinate.proofs.Bias.{biased_lt}
 use Rattle.runs.specs.Parts.{cut_part}
-use Rattle.runs.proofs.paint.cut.Goals.{then-past-size, else-past-size, After-biased-origin, Joined-past-size}
+use Rattle.runs.proofs.paint.cut.Goals.{After-biased-origin}
 use Rattle.runs.proofs.paint.cut.Goals as goal
 
 -- the two biased coordinates
@@ -21,15 +21,10 @@ module _ (c : After-biased-origin) where
 pub overflow_add-start : goal.overflow_add-start
 overflow_add-start c = record { fits = omega (arith, start_is (goal.at.overflow_add-start c).After-biased-origin, biased_lt c.args.low c.requires.0, c.requires.2) }
 
--- where the part ends
-module _ (c : Joined-past-size) where
-  end_is : c.if-past-size.end ≡ min c.less-past.result c.args.size
-  end_is = elim c.if-past-size.branch [ then-past-size w ↦ omega arith | else-past-size w ↦ omega arith ]
-
 pub returns : goal.returns
 unfolding cut_part
 returns c = let two = (goal.at.returns c).After-biased-origin in
-    let from_is = c.less-from.ensures ∙ ap₂ ◌-◌ (start_is two) (origin_is two) in
-    let past_is = c.less-past.ensures ∙ ap₂ (λ (x y : ℕ). x + c.args.n - y) (start_is two) (origin_is two) in
+    let from_is = c.saturating_sub-from.ensures ∙ ap₂ ◌-◌ (start_is two) (origin_is two) in
+    let past_is = c.saturating_sub-past.ensures ∙ ap₂ (λ (x y : ℕ). x + c.args.n - y) (start_is two) (origin_is two) in
     ap₂ (λ (x y : ℕ). record { from = x; pixels = y }) from_is
-    (c.less.ensures ∙ ap₂ ◌-◌ (end_is (goal.at.returns c).Joined-past-size ∙ ap (λ (x : ℕ). min x c.args.size) past_is) from_is)
+    (c.saturating_sub.ensures ∙ ap₂ ◌-◌ (c.min-end.ensures ∙ ap (λ (x : ℕ). min x c.args.size) past_is) from_is)

@@ -8,7 +8,8 @@ use mir.Val.{to_z, of_z}
 use mir.Facts.{to_z-of_z}
 use Rattle.coordinate.specs.Coordinate.{out_of_range}
 use Rattle.raster.specs.declared.window.Window.{Window}
-use Rattle.raster.proofs.Frames.{Placed, sized, placed}
+use Rattle.raster.proofs.Frames.{Placed}
+use Rattle.raster.proofs.Grids.{grid_size, grid_place}
 use Rattle.runs.specs.Painting.{natural}
 use Rattle.runs.specs.Parts.{cut_part, turned_window, long_part, short_part, piece_of}
 use Rattle.runs.specs.declared.paint.Part.{Part}
@@ -26,10 +27,10 @@ module _ (c : After-turned-side) where
   start = (goal.at.After-turned-side c).Start
 
   law : Lawful start.args.run
-  law = lawful start.args.run start.requires.0
+  law = lawful start.args.run start.requires
 
-  place : Placed (turned_window start.args.axis start.args.window)
-  place = turned-placed start.args.axis start.args.window (placed start.args.window start.requires.2)
+  place : Placed (turned_window start.args.axis start.args.grid.window)
+  place = turned-placed start.args.axis start.args.grid.window (grid_place start.args.grid)
 
   pixels_is : to_z w32 (of_z w32 start.args.run.pixels) ≡ start.args.run.pixels
   pixels_is = to_z-of_z {w = w32} (record { sfits = c.type_inv.run.1.1.0.1 })
@@ -45,7 +46,7 @@ cut-long-requires c = let t = (goal.at.cut-long-requires c).After-turned-side in
 )
 
 module _ (c : After-cut-long) where
-  long_is : c.cut-long.result ≡ long_part (start (goal.at.After-cut-long c).After-turned-side).args.axis (start (goal.at.After-cut-long c).After-turned-side).args.run (start (goal.at.After-cut-long c).After-turned-side).args.window
+  long_is : c.cut-long.result ≡ long_part (start (goal.at.After-cut-long c).After-turned-side).args.axis (start (goal.at.After-cut-long c).After-turned-side).args.run (start (goal.at.After-cut-long c).After-turned-side).args.grid.window
   long_is =
       let t = (goal.at.After-cut-long c).After-turned-side in
       c.cut-long.ensures
@@ -67,10 +68,10 @@ module _ (c : After-struct_known-2-1) where
   abbrev begun : Start
   begun = start (goal.at.After-struct_known-2-1 c).After-turned-side
 
-  long_part_lem : c.cut-long.result ≡ long_part begun.args.axis begun.args.run begun.args.window
+  long_part_lem : c.cut-long.result ≡ long_part begun.args.axis begun.args.run begun.args.grid.window
   long_part_lem = long_is (goal.at.After-struct_known-2-1 c).After-cut-long
 
-  short_part_lem : c.cut-short.result ≡ short_part begun.args.axis begun.args.run begun.args.window
+  short_part_lem : c.cut-short.result ≡ short_part begun.args.axis begun.args.run begun.args.grid.window
   short_part_lem =
       c.cut-short.ensures
       ∙ cut_cong _ _ _ _ _ _ _ _
@@ -81,7 +82,7 @@ module _ (c : After-struct_known-2-1) where
 
 pub overflow_mul-result : goal.overflow_mul-result
 overflow_mul-result c = let s = begun c in
-    let small = pixels_small s.args.axis s.args.run s.args.window (sized s.args.window s.requires.1) in
+    let small = pixels_small s.args.axis s.args.run s.args.grid.window (grid_size s.args.grid) in
     let same = ap₂ (λ (p q : Part). p.pixels * q.pixels) (long_part_lem c) (short_part_lem c) in
     record { fits = omega arith }
 

@@ -8,30 +8,25 @@ use lib.Dec.{eqb}
 use mir.Val.{bool_byte}
 use Rattle.raster.specs.Bits.{with_bits, masks}
 use Rattle.raster.specs.Fresh.{bit_count}
-use Rattle.raster.proofs.Frames.{Frame, frame, size_in, row_within, start_max, raster_max}
+use Rattle.raster.proofs.Frames.{Frame, row_within, start_max, raster_max}
+use Rattle.raster.proofs.Grids.{grid_frame}
 use Rattle.raster.proofs.BitLaws.{bits_length, bits_bytes}
 use Rattle.raster.proofs.Fresh.{bits_most}
 use Rattle.raster.proofs.Growing.{bits_put}
 use Rattle.runs.proofs.Column.{column_bits, column_none, column_on, column-plus}
-use Rattle.runs.proofs.paint.fill_column.Goals.{After-row_start, At-loop-i, In-loop-i, Start}
+use Rattle.runs.proofs.paint.fill_column.Goals.{After-row_start, At-loop, In-loop, Start}
 use Rattle.runs.proofs.paint.fill_column.Goals as goal
-
-pub row_bytes-stride-requires : goal.row_bytes-stride-requires
-row_bytes-stride-requires c = size_in c.args.window _ c.requires.0
-
-pub row_start-requires : goal.row_start-requires
-row_start-requires c = (size_in c.args.window _ c.requires.0, omega (arith, c.requires.2))
 
 -- the rows are in the raster, which is small
 module _ (c : After-row_start) where
   abbrev start : Start
   start = (goal.at.After-row_start c).Start
 
-  in_frame : Frame start.args.window (length start.args.raster.now)
-  in_frame = frame start.args.window _ start.requires.0
+  in_frame : Frame start.args.grid.window (length start.args.raster.now)
+  in_frame = grid_frame start.args.grid _ start.requires.0
 
   start_small : c.row_start.result ≤ 8388608
-  start_small = omega (arith, c.row_start.ensures, start_max start.args.window start.args.row in_frame.size (omega (arith, start.requires.2)))
+  start_small = omega (arith, c.row_start.ensures, start_max start.args.grid.window start.args.row in_frame.size (omega (arith, start.requires.2)))
 
   start_is : c.row_start.result ≡ start.args.row * c.row_bytes-stride.result
   start_is = c.row_start.ensures ∙ ap (λ (b : ℕ). start.args.row * b) (sym c.row_bytes-stride.ensures)
@@ -41,90 +36,80 @@ module _ (c : After-row_start) where
       × (length start.args.raster.now ≤ 8388608)
   row_in i l =
       let before = ap (λ (b : ℕ). (start.args.row + i) * b) c.row_bytes-stride.ensures in
-      let lies = row_within start.args.window _ (start.args.row + i) in_frame.shape (omega (arith, start.requires.2)) in
-      (omega (arith, before, lies, start.requires.1), raster_max start.args.window _ in_frame)
+      let lies = row_within start.args.grid.window _ (start.args.row + i) in_frame.shape (omega (arith, start.requires.2)) in
+      (omega (arith, before, lies, start.requires.1), raster_max start.args.grid.window _ in_frame)
 
 pub overflow_add-at : goal.overflow_add-at
 overflow_add-at c = record { fits = omega (arith, start_small c) }
 
-pub loop-i-init : goal.loop-i-init
-loop-i-init c = (omega (arith, start_is c), omega arith, column_none _ _ _ _ (λ i _. (c.type_inv.raster i).fits), omega arith)
+pub loop-init : goal.loop-init
+loop-init c = (omega (arith, start_is c), column_none _ _ _ _ (λ i _. (c.type_inv.raster i).fits), omega arith)
 
 -- the byte of the next row
-module _ (c : In-loop-i) where
-  at_in : (c.loop-i.at < length c.loop-i.raster) × (length c.loop-i.raster ≤ 8388608)
+module _ (c : In-loop) where
+  at_in : (c.loop.at < length c.loop.raster) × (length c.loop.raster ≤ 8388608)
   at_in =
-      let inv = c.loop-i.invariant in
-      let len = ap length inv.2 ∙ bits_length _ _ in
-      let r = row_in (goal.at.In-loop-i c).After-row_start c.loop-i.i c.loop-i-test.true in
+      let inv = c.loop.invariant in
+      let len = ap length inv.1 ∙ bits_length _ _ in
+      let r = row_in (goal.at.In-loop c).After-row_start c.loop.counter c.loop-test.true in
       (omega (arith, inv.0, r.0), omega (arith, r.1))
 
 -- its bit is set, and `fresh` grows where it was not
-module _ (c : In-loop-i) where
-  abbrev at : At-loop-i
-  at = (goal.at.In-loop-i c).At-loop-i
+module _ (c : In-loop) where
+  abbrev at : At-loop
+  at = (goal.at.In-loop c).At-loop
 
   abbrev old : ℕ
-  old = get_or at.loop-i.raster at.loop-i.at 0
+  old = get_or at.loop.raster at.loop.at 0
 
   abbrev bit : ℕ
-  bit = get_or masks ((start (goal.at.At-loop-i at).After-row_start).args.column % 8) 0
+  bit = get_or masks ((start (goal.at.At-loop at).After-row_start).args.column % 8) 0
 
   abbrev new : ℕ
   new = bit_or old bit
 
-  grown : bit_count (set at.loop-i.raster at.loop-i.at new) ≡ bit_count at.loop-i.raster + bool_byte (eqb (bit_and old bit) 0)
+  grown : bit_count (set at.loop.raster at.loop.at new) ≡ bit_count at.loop.raster + bool_byte (eqb (bit_and old bit) 0)
   grown =
-      bits_put at.loop-i.raster at.loop-i.at (at_in c).0 (rw at.loop-i.invariant.2 (bits_bytes _ _)) masks refl ((start (goal.at.At-loop-i at).After-row_start).args.column % 8) (omega arith)
+      bits_put at.loop.raster at.loop.at (at_in c).0 (rw at.loop.invariant.1 (bits_bytes _ _)) masks refl ((start (goal.at.At-loop at).After-row_start).args.column % 8) (omega arith)
 
 pub bounds-raster-at : goal.bounds-raster-at
-bounds-raster-at c = (at_in (goal.at.bounds-raster-at c).In-loop-i).0
+bounds-raster-at c = (at_in (goal.at.bounds-raster-at c).In-loop).0
 
-pub bounds-raster-at-in-loop-i : goal.bounds-raster-at-in-loop-i
-bounds-raster-at-in-loop-i c = (at_in (goal.at.bounds-raster-at-in-loop-i c).In-loop-i).0
-
-pub overflow_cast-fresh : goal.overflow_cast-fresh
-overflow_cast-fresh c = tt
+pub bounds-raster-at-in-loop : goal.bounds-raster-at-in-loop
+bounds-raster-at-in-loop c = (at_in (goal.at.bounds-raster-at-in-loop c).In-loop).0
 
 pub overflow_add-fresh : goal.overflow_add-fresh
-overflow_add-fresh c = let t = set (at (goal.at.overflow_add-fresh c).In-loop-i).loop-i.raster (at (goal.at.overflow_add-fresh c).In-loop-i).loop-i.at (new (goal.at.overflow_add-fresh c).In-loop-i) in
+overflow_add-fresh c = let t = set (at (goal.at.overflow_add-fresh c).In-loop).loop.raster (at (goal.at.overflow_add-fresh c).In-loop).loop.at (new (goal.at.overflow_add-fresh c).In-loop) in
     record {
       fits = omega (
         arith,
-        (at (goal.at.overflow_add-fresh c).In-loop-i).loop-i.invariant.3,
-        grown (goal.at.overflow_add-fresh c).In-loop-i,
+        (at (goal.at.overflow_add-fresh c).In-loop).loop.invariant.2,
+        grown (goal.at.overflow_add-fresh c).In-loop,
         bits_most t,
-        length-set (at (goal.at.overflow_add-fresh c).In-loop-i).loop-i.raster (at (goal.at.overflow_add-fresh c).In-loop-i).loop-i.at (new (goal.at.overflow_add-fresh c).In-loop-i),
-        (at_in (goal.at.overflow_add-fresh c).In-loop-i).1,
+        length-set (at (goal.at.overflow_add-fresh c).In-loop).loop.raster (at (goal.at.overflow_add-fresh c).In-loop).loop.at (new (goal.at.overflow_add-fresh c).In-loop),
+        (at_in (goal.at.overflow_add-fresh c).In-loop).1,
       );
     }
 
-pub overflow_add-at-in-loop-i : goal.overflow_add-at-in-loop-i
-overflow_add-at-in-loop-i c = record { fits = omega (arith, at_in (goal.at.overflow_add-at-in-loop-i c).In-loop-i, c.row_bytes-stride.ensures, (in_frame (goal.at.overflow_add-at-in-loop-i c).After-row_start).size.width_max) }
+pub overflow_add-at-in-loop : goal.overflow_add-at-in-loop
+overflow_add-at-in-loop c = record { fits = omega (arith, at_in (goal.at.overflow_add-at-in-loop c).In-loop, c.row_bytes-stride.ensures, (in_frame (goal.at.overflow_add-at-in-loop c).After-row_start).size.width_max) }
 
-pub overflow_add-i : goal.overflow_add-i
-overflow_add-i c = omega arith
-
-pub loop-i-smaller : goal.loop-i-smaller
-loop-i-smaller c = omega arith
-
-pub loop-i-preserved : goal.loop-i-preserved
-loop-i-preserved c = let loop = (at (goal.at.loop-i-preserved c).In-loop-i).loop-i in (
+pub loop-preserved : goal.loop-preserved
+loop-preserved c = let loop = (at (goal.at.loop-preserved c).In-loop).loop in (
   omega (arith, loop.invariant.0),
-  omega arith,
-  column_on _ _ _ _ loop.raster loop.i loop.at loop.invariant.2 loop.invariant.0 (at_in (goal.at.loop-i-preserved c).In-loop-i).0,
-  omega (arith, loop.invariant.3, grown (goal.at.loop-i-preserved c).In-loop-i),
+  column_on _ _ _ _ loop.raster loop.counter loop.at loop.invariant.1 loop.invariant.0 (at_in (goal.at.loop-preserved c).In-loop).0,
+  omega (arith, loop.invariant.2, grown (goal.at.loop-preserved c).In-loop),
 )
 
 pub shape_of-raster : goal.shape_of-raster
-shape_of-raster c = ap length c.loop-i.invariant.2 ∙ bits_length _ _
+shape_of-raster c = ap length c.loop.invariant.1 ∙ bits_length _ _
 
 pub returns : goal.returns
 returns c = let s = start (goal.at.returns c).After-row_start in
-    let done : c.loop-i.i ≡ s.args.n = omega (arith, c.loop-i.invariant.1) in record {
-      raster_after = c.loop-i.invariant.2
+    let done : c.loop.counter ≡ s.args.n = omega arith in record {
+      raster_after = c.loop.invariant.1
           ∙ ap₂ (λ (b n : ℕ). with_bits (column_bits s.args.column s.args.row b n) s.args.raster.now) c.row_bytes-stride.ensures done
-          ∙ column-plus s.args.window s.args.column s.args.row s.args.n s.args.raster.now (in_frame (goal.at.returns c).After-row_start).shape
+          ∙ column-plus s.args.grid.window s.args.column s.args.row s.args.n s.args.raster.now (in_frame (goal.at.returns c).After-row_start).shape
           (λ i _. (c.slice_known-1.given i).fits) s.requires.1;
-      bits_grow = c.loop-i.invariant.3;
+      bits_grow = c.loop.invariant.2;
     }

@@ -1,18 +1,24 @@
 -- Each return is a case of the outcome: the frame's refusal, the count's, a bad run's, or the painting.
 use mathlib.Core.Path.{◌≡◌, sym, ap, ◌∙◌}
 use mathlib.Core.List.{List}
-use mathlib.Core.Option.{Option, none}
-use Prim.Native.Nat.{ℕ}
+use Prim.Native.Nat.{ℕ, ◌*◌, ◌/◌, ◌≤◌}
+use native.Mathlib.Omega.{arith}
+use native.Mathlib.Nat.{sub-zero}
 use lib.ListN.{length}
+use Rattle.std.proofs.Common.{take}
+use Rattle.std.specs.Prelude.{Option}
 use Rattle.refusal.specs.Refusal.{given, first_met}
-use Rattle.refusal.proofs.Handing.{refused_by, passed_by}
+use Rattle.refusal.proofs.Handing.{passed, err_is}
 use Rattle.raster.specs.Raster.{plus}
 use Rattle.raster.specs.Window.{frame_conditions}
 use Rattle.raster.specs.declared.drawn.Marks.{Marks}
-use Rattle.raster.proofs.Plus.{plus-length}
+use Rattle.raster.proofs.Frames.{window_in}
+use Rattle.raster.proofs.Grids.{length_in}
 use Rattle.runs.specs.Painting.{first_bad, in_runs, paint_marks}
+use Rattle.runs.specs.Parts.{bad_check}
+use Rattle.runs.proofs.Counted.{counted_bad, counted_runs, counted_marks}
 use Rattle.runs.proofs.Outcome.{none_bad, frame_refused, count_refused, run_refused, all_passed}
-use Rattle.runs.proofs.paint.paint_runs.Goals.{In_default, In_default-runs, Start}
+use Rattle.runs.proofs.paint.paint_runs.Goals.{In_ok-check_frame, In-Some, Start}
 use Rattle.runs.proofs.paint.paint_runs.Goals as goal
 
 -- what the outcome is made of
@@ -26,55 +32,71 @@ module _ (s : Start) where
   abbrev work : List ℕ
   work = plus s.args.window s.args.raster.now (in_runs s.args.axis s.args.list.now s.args.count)
 
-pub returns-in-Refused : goal.returns-in-Refused
-returns-in-Refused c = let s = (goal.at.returns-in-Refused c).Start in
+pub returns-in_err-check_frame : goal.returns-in_err-check_frame
+returns-in_err-check_frame c =
+    let s = (goal.at.returns-in_err-check_frame c).Start in
     let a = c.args in
-    let n = length a.raster.now in
-    let facts = frame_refused a.window n a.list.now a.count (bad s) (total s) (work s) a.raster.now c.in-Refused.refusal
-    (refused_by c.check_frame-frame.result (first_met (frame_conditions a.window n)) c.check_frame-frame.ensures c.in-Refused.refusal c.in-Refused.is) in
+    let facts = frame_refused a.window (length a.raster.now) a.list.now a.count (bad s) (total s) (work s) a.raster.now
+    c.in_err-check_frame.field-0.0 c.in_err-check_frame.ensures in
+    record { answered = err_is _ _ c.from_residual.ensures.1 ∙ facts.0; raster_after = facts.1 }
+
+-- the frame is within the limits
+module _ (c : In_ok-check_frame) where
+  within : first_met (frame_conditions c.args.window (length c.args.raster.now)) ≡ 0
+  within = passed _ _ c.in_ok-check_frame.ensures
+
+pub returns-in_default : goal.returns-in_default
+returns-in_default c =
+    let s = (goal.at.returns-in_default c).Start in
+    let a = c.args in
+    let facts = count_refused a.window (length a.raster.now) a.list.now a.count (bad s) (total s) (work s) a.raster.now
+    (within (goal.at.returns-in_default c).In_ok-check_frame) (omega (arith, c.in_default.ensures.lookup.0)) in
     record { answered = facts.0; raster_after = facts.1 }
 
-module _ (c : In_default) where
-  abbrev start : Start
-  start = (goal.at.In_default c).Start
+-- the counted runs are those of the cut list
+module _ (c : In-Some) where
+  fits : 3 * c.args.count ≤ length c.args.list.now
+  fits = c.in-Some.ensures.lookup.0.1
 
-  within : first_met (frame_conditions start.args.window (length start.args.raster.now)) ≡ 0
-  within = passed_by c.check_frame-frame.result _ c.check_frame-frame.ensures c.in_default.is
+  cut : c.in-Some.counted.now ≡ take (3 * c.args.count) c.args.list.now
+  cut = rw sub-zero at c.in-Some.ensures.lookup.0.2
 
-pub returns-then-list-count : goal.returns-then-list-count
-returns-then-list-count c = let s = start (goal.at.returns-then-list-count c).In_default in
-    let a = s.args in
-    let facts = count_refused a.window (length a.raster.now) a.list.now a.count (bad s) (total s) (work s) a.raster.now (within (goal.at.returns-then-list-count c).In_default) c.if-list-count.true in
-    record { answered = facts.0; raster_after = facts.1 }
+  long : length c.in-Some.counted.now / 3 ≡ c.args.count
+  long = omega (arith, c.in-Some.ensures.lookup.0.3)
 
-pub returns-in-Refused-runs : goal.returns-in-Refused-runs
-returns-in-Refused-runs c = let s = start (goal.at.returns-in-Refused-runs c).In_default in
-    let a = s.args in
-    let facts = run_refused a.window (length a.raster.now) a.list.now a.count (bad s) (total s) (work s) a.raster.now (within (goal.at.returns-in-Refused-runs c).In_default)
-    c.if-list-count.false c.in-Refused-runs.refusal (sym c.check_runs-runs.ensures ∙ c.in-Refused-runs.is) in
-    record { answered = facts.0; raster_after = facts.1 }
+  same_bad : first_bad c.in-Some.counted.now (length c.in-Some.counted.now / 3) ≡ first_bad c.args.list.now c.args.count
+  same_bad = counted_bad c.args.list.now c.in-Some.counted.now c.args.count cut long
 
--- what is known after the second check
-module _ (c : In_default-runs) where
-  abbrev begun : Start
-  begun = start (goal.at.In_default-runs c).In_default
+pub returns-in_err-check_runs : goal.returns-in_err-check_runs
+returns-in_err-check_runs c =
+    let s = (goal.at.returns-in_err-check_runs c).Start in
+    let some = (goal.at.returns-in_err-check_runs c).In-Some in
+    let a = c.args in
+    let facts = run_refused a.window (length a.raster.now) a.list.now a.count (bad s) (total s) (work s) a.raster.now
+    (within (goal.at.returns-in_err-check_runs c).In_ok-check_frame) (fits some) c.in_err-check_runs.field-0.0
+    (ap bad_check (sym (same_bad some)) ∙ sym c.in_err-check_runs.ensures) in
+    record { answered = err_is _ _ c.from_residual-in_err-check_runs.ensures.1 ∙ facts.0; raster_after = facts.1 }
 
-  no_bad : bad begun ≡ none
-  no_bad = none_bad _ (sym c.check_runs-runs.ensures ∙ c.in_default-runs.is)
+pub invariant_of-paint_all : goal.invariant_of-paint_all
+invariant_of-paint_all c = record { within = window_in _ _ (within (goal.at.invariant_of-paint_all c).In_ok-check_frame) }
 
 pub paint_all-requires : goal.paint_all-requires
-paint_all-requires c = let t = (goal.at.paint_all-requires c).In_default-runs in
-    (c.if-list-count.false, no_bad t, within (goal.at.paint_all-requires c).In_default)
-
-pub shape_of-raster : goal.shape_of-raster
-shape_of-raster c = ap length c.paint_all.ensures.raster_after ∙ plus-length _ _ _
+paint_all-requires c = (
+  let e = long (goal.at.paint_all-requires c).In-Some in omega (arith, c.ranges.count.fits),
+  none_bad _ (sym c.in_ok-check_runs.ensures),
+  length_in _ _ (within (goal.at.paint_all-requires c).In_ok-check_frame),
+)
 
 pub returns : goal.returns
 returns c =
-    let t = (goal.at.returns c).In_default-runs in
-    let a = (begun t).args in
-    let passed = all_passed a.window (length a.raster.now) a.list.now a.count (within (goal.at.returns c).In_default) c.if-list-count.false in
+    let a = c.args in
+    let some = (goal.at.returns c).In-Some in
+    let list = c.in-Some.counted.now in
+    let none = sym (same_bad some) ∙ none_bad _ (sym c.in_ok-check_runs.ensures) in
+    let all = all_passed a.window (length a.raster.now) a.list.now a.count (within (goal.at.returns c).In_ok-check_frame) (fits some) in
     record {
-      answered = rw (passed, no_bad t) (ap given c.paint_all.ensures.value);
-      raster_after = rw (passed, no_bad t) c.paint_all.ensures.raster_after;
+      answered = rw (all, none) (ap given (c.paint_all.ensures.value
+          ∙ counted_marks a.list.now list a.count (cut some) (long some) a.axis a.window a.raster.now));
+      raster_after = rw (all, none) (c.paint_all.ensures.raster_after
+          ∙ ap (plus a.window a.raster.now) (counted_runs a.list.now list a.count (cut some) (long some) a.axis));
     }

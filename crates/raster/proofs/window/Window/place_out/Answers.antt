@@ -22,7 +22,6 @@ side_place_out-requires-2 c = (sides _ c.requires).1
 pub returns : goal.returns
 unfolding place_out
 returns c = let w = c.args.self in
-    c.either.ensures
-    ∙ ap₂ ◌||◌
+    ap₂ ◌||◌
     (c.side_place_out.ensures ∙ ap (λ (z : ℤ). side_place_out z w.width) (to_z-of_z {w = w32} (record { sfits = c.struct_told-1.given.0.1 })))
     (c.side_place_out-2.ensures ∙ ap (λ (z : ℤ). side_place_out z w.height) (to_z-of_z {w = w32} (record { sfits = c.struct_told-1.given.1.0.1 })))
