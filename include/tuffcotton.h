@@ -1,6 +1,6 @@
 /* Tuffcotton: the scratch-mask library of a film scanner's panel, for programs in C.
  *
- * Link target/staticlib/libcapi.a, which `tools/archive` writes. It calls memset and memcpy of the C library. Every function takes every
+ * Link target/staticlib/libcapi.a, which `tools/archive` writes. It calls memset of the C library. Every function takes every
  * number: it answers, or it refuses with a number of document 01's list, which document 02 goes on with, and then no buffer has
  * changed. The buffers are the caller's: a function reads or writes the given number of elements and no others, keeps no pointer
  * after it has returned, and has no memory of its own but its stack (tc_lineruns about 60 KB). A pointer is never NULL, also where

@@ -18,7 +18,7 @@ pub struct Band {
 impl Band {
     // Whether the band has no rows or ends below the window. Its rows are taken from the height, since its first row and their
     // number may be too large to add.
-    fn out(self, window: Window) -> bool
+    pub fn out(self, window: Window) -> bool
         ensures { result ≡ band_out window self.first self.rows }
     {
         if self.rows == 0 {

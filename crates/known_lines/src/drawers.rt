@@ -13,11 +13,19 @@ use refusal::Refusal;
 use runs::paint::paint_runs;
 
 // The most bytes that a raster has here: a row of one pixel more than a window may have.
-pub const ROOM: usize = 1025;
+const ROOM: usize = 1025;
 
 // The length of a window's raster.
 pub fn bytes(window: Window) -> usize {
-    window.height as usize * ((window.width as usize + 7) / 8)
+    window.height as usize * window.width.div_ceil(8) as usize
+}
+
+// What `work` makes of a clear raster of `length` bytes, none where that is more than ROOM.
+pub fn on_clear<T, F: FnOnce(&mut [u8]) -> T>(length: usize, work: F) -> Option<T>
+    requires { F.IsAlwaysCallable work }
+{
+    let mut room = [0u8; ROOM];
+    room.get_mut(..length).map(work)
 }
 
 // Lists the line's runs and paints them; the counts, or the first refusal of the two.
@@ -40,52 +48,51 @@ fn draw_rows(ends: Ends, window: Window, raster: &mut [u8]) -> Result<Marks, Ref
     Ok(Marks { count, fresh })
 }
 
-// Whether a drawer answers so many pixels, every one new, or this refusal, and makes the expected raster of the clear one that is
-// lent; and whether it then draws the same line again with no pixel new and leaves the raster as it is.
-fn draws_on<F: Fn(Ends, Window, &mut [u8]) -> Result<Marks, Refusal>>(
-    draw: F,
+// A line in a window, and what every drawer has to make of it on a clear raster: so many pixels, every one new, or this
+// refusal; and the expected raster.
+#[derive(Clone, Copy)]
+struct Case<'a> {
     ends: Ends,
     window: Window,
     count: Result<u64, Refusal>,
-    expected: &[u8],
-    raster: &mut [u8],
-) -> bool
-    requires { F.IsAlwaysCallable draw }
-{
-    let first = count.map(|count| Marks {
-        count,
-        fresh: count,
-    });
-    let again = count.map(|count| Marks { count, fresh: 0 });
-    if draw(ends, window, raster) != first || &*raster != expected {
-        return false;
+    expected: &'a [u8],
+}
+
+impl Case<'_> {
+    // Whether a drawer makes this of the clear raster that is lent; and whether it then draws the same line again with no pixel new
+    // and leaves the raster as it is.
+    fn holds_on<F: Fn(Ends, Window, &mut [u8]) -> Result<Marks, Refusal>>(
+        self,
+        draw: F,
+        raster: &mut [u8],
+    ) -> bool
+        requires { F.IsAlwaysCallable draw }
+    {
+        let first = self.count.map(|count| Marks {
+            count,
+            fresh: count,
+        });
+        let again = self.count.map(|count| Marks { count, fresh: 0 });
+        if draw(self.ends, self.window, raster) != first || &*raster != self.expected {
+            return false;
+        }
+        draw(self.ends, self.window, raster) == again && &*raster == self.expected
     }
-    draw(ends, window, raster) == again && &*raster == expected
-}
 
-// The same on a clear raster, which has room for the expected one.
-fn draws<F: Fn(Ends, Window, &mut [u8]) -> Result<Marks, Refusal>>(
-    draw: F,
-    ends: Ends,
-    window: Window,
-    count: Result<u64, Refusal>,
-    expected: &[u8],
-) -> bool
-    requires { F.IsAlwaysCallable draw }
-{
-    let mut room = [0u8; ROOM];
-    let Some(raster) = room.get_mut(..expected.len()) else {
-        return false;
-    };
-    draws_on(draw, ends, window, count, expected, raster)
-}
+    // The same on a clear raster, which has room for the expected one.
+    fn holds_of<F: Fn(Ends, Window, &mut [u8]) -> Result<Marks, Refusal>>(self, draw: F) -> bool
+        requires { F.IsAlwaysCallable draw }
+    {
+        on_clear(self.expected.len(), |raster| self.holds_on(draw, raster)).unwrap_or(false)
+    }
 
-// Whether every drawer answers so, and makes the expected raster of a clear one.
-fn all_draw(ends: Ends, window: Window, count: Result<u64, Refusal>, expected: &[u8]) -> bool {
-    draws(draw_single, ends, window, count, expected)
-        && draws(draw_double, ends, window, count, expected)
-        && draws(list_and_paint, ends, window, count, expected)
-        && draws(draw_rows, ends, window, count, expected)
+    // Whether it holds of every drawer.
+    fn holds_of_all(self) -> bool {
+        self.holds_of(draw_single)
+            && self.holds_of(draw_double)
+            && self.holds_of(list_and_paint)
+            && self.holds_of(draw_rows)
+    }
 }
 
 // Draws the line by the second drawer and answers its count.
@@ -110,13 +117,18 @@ fn draw_second(ends: Ends, window: Window, raster: &mut [u8]) -> u64 {
 // Whether every drawer has the second drawer's raster and count, each on a clear raster and once more on what it left, or,
 // where a refusal is given, every drawer refuses by it and leaves its raster clear. False for a raster of more than ROOM bytes.
 pub fn alike(ends: Ends, window: Window, refusal: Option<Refusal>) -> bool {
-    let mut room = [0u8; ROOM];
-    let Some(raster) = room.get_mut(..bytes(window)) else {
-        return false;
-    };
-    let count = match refusal {
-        Some(refusal) => Err(refusal),
-        None => Ok(draw_second(ends, window, raster)),
-    };
-    all_draw(ends, window, count, raster)
+    on_clear(bytes(window), |raster| {
+        let count = match refusal {
+            Some(refusal) => Err(refusal),
+            None => Ok(draw_second(ends, window, raster)),
+        };
+        let case = Case {
+            ends,
+            window,
+            count,
+            expected: raster,
+        };
+        case.holds_of_all()
+    })
+    .unwrap_or(false)
 }

@@ -1,5 +1,5 @@
 // Document 01's lettered lines: their axis and runs, and the raster where the document gives one.
-use crate::drawers::{ROOM, alike, bytes};
+use crate::drawers::{alike, bytes, on_clear};
 use crate::print::{print_end, print_ends, print_marks, print_window};
 use crate::small::{LIST, WINDOW};
 use coordinate::Axis;
@@ -57,15 +57,17 @@ fn print_drawing_on(
     window: Window,
     raster: &mut [u8],
 ) -> io::Result<()> {
-    let Ok(marks) = draw_single(ends, window, raster) else {
-        return rt.print("refused");
-    };
-    rt.print("bytes")?;
-    for byte in raster.iter() {
-        print!(rt; " {byte}")?;
+    match draw_single(ends, window, raster) {
+        Ok(marks) => {
+            rt.print("bytes")?;
+            for byte in raster.iter() {
+                print!(rt; " {byte}")?;
+            }
+            rt.print(", ")?;
+            print_marks(rt, marks)?;
+        }
+        Err(_) => rt.print("refused")?,
     }
-    rt.print(", ")?;
-    print_marks(rt, marks)?;
     match draw_double(ends, window, raster) {
         Ok(marks) => print!(rt; ", again {}", marks.fresh),
         Err(_) => rt.print("refused"),
@@ -74,11 +76,10 @@ fn print_drawing_on(
 
 // The same on a clear raster.
 fn print_drawing(rt: &impl Print, ends: Ends, window: Window) -> io::Result<()> {
-    let mut room = [0u8; ROOM];
-    match room.get_mut(..bytes(window)) {
-        Some(raster) => print_drawing_on(rt, ends, window, raster),
-        None => Ok(()),
-    }
+    on_clear(bytes(window), |raster| {
+        print_drawing_on(rt, ends, window, raster)
+    })
+    .unwrap_or(Ok(()))
 }
 
 // Prints a line that the document gives in a window at left 0, top 0.

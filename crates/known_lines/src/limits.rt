@@ -1,7 +1,7 @@
 // Document 01's limits on ends, width and list, at their edges.
 ghost use Rattle.std.specs.Prelude.{◌≤◌};
 
-use crate::drawers::{ROOM, alike, bytes};
+use crate::drawers::{alike, bytes, on_clear};
 use crate::print::print_end;
 use line::ends::Ends;
 use line_draw::draw::draw_single;
@@ -12,9 +12,10 @@ use std::io;
 
 // The refusal that the single-step drawer answers on a raster of the window's length, none where it draws.
 fn draw_refusal(ends: Ends, window: Window) -> Option<Refusal> {
-    let mut room = [0u8; ROOM];
-    let raster = room.get_mut(..bytes(window))?;
-    draw_single(ends, window, raster).err()
+    on_clear(bytes(window), |raster| {
+        draw_single(ends, window, raster).err()
+    })
+    .flatten()
 }
 
 // The refusal that the lister answers with a list of `n` numbers, none where it lists.
@@ -38,6 +39,18 @@ fn print_answer(rt: &impl Print, refusal: Option<Refusal>) -> io::Result<()> {
     }
 }
 
+// Prints the single-step drawer's answer and ends the line, with `differ` unless all drawers are alike and `other` is the same.
+fn print_drawers(
+    rt: &impl Print,
+    ends: Ends,
+    window: Window,
+    other: Option<Refusal>,
+) -> io::Result<()> {
+    let refusal = draw_refusal(ends, window);
+    print_answer(rt, refusal)?;
+    print_end(rt, alike(ends, window, refusal) && other == refusal)
+}
+
 // A line from (0,0) to a column of row 0, by every drawer and the lister.
 fn show_end(rt: &impl Print, name: &str, column: i32) -> io::Result<()> {
     rt.print(name)?;
@@ -53,12 +66,7 @@ fn show_end(rt: &impl Print, name: &str, column: i32) -> io::Result<()> {
         width: 8,
         height: 1,
     };
-    let refusal = draw_refusal(ends, window);
-    print_answer(rt, refusal)?;
-    print_end(
-        rt,
-        alike(ends, window, refusal) && list_refusal(ends, 12) == refusal,
-    )
+    print_drawers(rt, ends, window, list_refusal(ends, 12))
 }
 
 // A window of one row and this width, by the window's maker and every drawer.
@@ -76,12 +84,7 @@ fn show_width(rt: &impl Print, width: u32) -> io::Result<()> {
         width,
         height: 1,
     };
-    let refusal = draw_refusal(ends, window);
-    print_answer(rt, refusal)?;
-    print_end(
-        rt,
-        alike(ends, window, refusal) && maker_refusal(window) == refusal,
-    )
+    print_drawers(rt, ends, window, maker_refusal(window))
 }
 
 // Line H with a list of `n` numbers.

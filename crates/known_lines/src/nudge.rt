@@ -39,7 +39,7 @@ impl Apart {
         if self.l == 0 {
             return 0;
         }
-        (i * self.d + (self.l - 1)) / self.l
+        (i * self.d).div_ceil(self.l)
     }
 }
 

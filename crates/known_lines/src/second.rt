@@ -41,7 +41,7 @@ fn mark(pixel: Place, frame: Frame, raster: &mut [u8]) -> u64
     if frame.width <= column || frame.height <= row {
         return 0;
     }
-    let bytes = (frame.width as usize + 7) / 8;
+    let bytes = frame.width.div_ceil(8) as usize;
     if let Some(byte) = raster.get_mut(row as usize * bytes + column as usize / 8) {
         *byte |= 128u8 >> (column % 8);
     }

@@ -48,7 +48,7 @@ fn spot_of(line: Line, grid: Grid, i: u32) -> Spot
     let y = line.rows.at(along(line.axis, short.distance, i));
     let column = x - Coordinate::biased(grid.window.left);
     let row = y - Coordinate::biased(grid.window.top);
-    let bit = bit_of(grid, column, row);
+    let bit = bit_of(grid.window, column, row);
     Spot { bit, rest }
 }
 

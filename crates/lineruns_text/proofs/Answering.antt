@@ -131,8 +131,7 @@ module _ (e : Ends) (few : short e + 1 ≤ 5000) where
   runs-part : ends_out e ≡ false → length (run_lines (runs e)) ≤ 20 * (short e + 1)
   runs-part p =
       let back = each_cong (short e + 1) (run_at (list_then e [])) (run e) (read_back e []).run_is in
-      let size = (read_back e []).length_is in
-      rw (runs-each e, sym back) (lines_length (list_then e []) (short e + 1) (omega (arith, length-append {A = ℤ})) (none_bad e [] p).good)
+      rw (runs-each e, sym back) (lines_length (list_then e []) (short e + 1) (none_bad e [] p).good)
 
   list_length : ends_out e ≡ false → length (axis_line e ++ run_lines (runs e)) ≤ 110000
   list_length p =

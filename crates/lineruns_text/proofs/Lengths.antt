@@ -1,5 +1,5 @@
 -- How long the printed lines are.
-use Rattle.std.proofs.Common.{ℕ, ◌*◌, ◌/◌, ◌≤◌, ◌<◌, ◌≡◌, false, suc, zero, ℤ, List, add-one, arith, length, length-append}
+use Rattle.std.proofs.Common.{ℕ, ◌*◌, ◌≤◌, ◌<◌, ◌≡◌, false, suc, zero, ℤ, List, add-one, arith, length, length-append}
 use Rattle.std.proofs.lemmas.Fmt.{length-decimal-le}
 use Rattle.counting.specs.Count.{each}
 use Rattle.runs.specs.Painting.{run_at, run_bad}
@@ -17,9 +17,9 @@ axis_line-length letter n h =
     let d = length-decimal-le 5 n (omega arith) (omega arith) (omega arith) in
     rw (axis_is letter n (omega arith)) (omega (arith, length-append {A = ℕ}))
 
-pub lines_length : (list : List ℤ) (n : ℕ) → n ≤ length list / 3 → ((k : ℕ) → k < n → run_bad list k ≡ false) → length (run_lines (each n (run_at list))) ≤ 20 * n
-lines_length list zero room good = rw (lines_none (run_at list)) (omega arith)
-lines_length list (suc n) room good =
-    let line = line_length list n (omega arith) (good n (omega arith)) in
-    let before = lines_length list n (omega arith) (λ k l. good k (omega arith)) in
+pub lines_length : (list : List ℤ) (n : ℕ) → ((k : ℕ) → k < n → run_bad list k ≡ false) → length (run_lines (each n (run_at list))) ≤ 20 * n
+lines_length list zero good = rw (lines_none (run_at list)) (omega arith)
+lines_length list (suc n) good =
+    let line = line_length list n (good n (omega arith)) in
+    let before = lines_length list n (λ k l. good k (omega arith)) in
     rw (← add-one n) (rw (lines_more n (run_at list)) (omega (arith, length-append {A = ℕ})))

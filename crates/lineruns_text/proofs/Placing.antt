@@ -1,17 +1,10 @@
 -- Appending a text and then another behind it is appending both.
-use Rattle.std.proofs.Common.{◌≡◌, ℕ, ◌+◌, ◌-◌, ◌≤◌, List, [], ◌++◌, length, take, drop, arith, refl, sym, ap, ◌∙◌, append_assoc, length-append, length-drop}
-use Rattle.std.proofs.lemmas.List.{length-take-le, drop-drop, take_at}
-use borrow.Rule.Slice.PartMut.{put_mid}
+use Rattle.std.proofs.Common.{◌≡◌, ℕ, ◌+◌, ◌≤◌, ◌<◌, List, [], ◌∷◌, ◌++◌, length, take, drop, set, add-one, arith, refl, sym, ap, ◌∙◌, append_assoc, length-append, length-drop}
+use Rattle.std.proofs.lemmas.List.{length-take-le, length-set, drop-drop, take_at, set_split}
 use lib.Seq.{drop-append-add, paste-zero}
 use native.Mathlib.Nat.{add_assoc}
 use Rattle.lineruns_text.specs.Written.{written, Appended}
 use Rattle.lineruns_text.specs.declared.text.Text.{Text}
-
--- a text that is copied to its place
-pub copied : (at : ℕ) (buffer text part : List ℕ) → part ≡ text → put_mid at (at + length text - at) buffer part ≡ written at text buffer
-unfolding written
-copied at buffer text part e =
-    let n : at + length text - at ≡ length text = omega arith in rw (e, n, drop-drop, append_assoc)
 
 module _ (at : ℕ) (text buffer : List ℕ) (room : at + length text ≤ length buffer) where
   head_length : length (take at buffer ++ text) ≡ at + length text
@@ -60,3 +53,16 @@ nothing x h = record {
   size = refl;
   bytes = paste-zero x.output.now x.len [];
 }
+
+-- one byte, set where the text ends
+pub one : {byte : ℕ} {x y : Text} → x.len < length x.output.now → y.output.ghost_name ≡ x.output.ghost_name → y.len ≡ x.len + 1
+    → y.output.now ≡ set x.output.now x.len byte → Appended (byte ∷ []) x y
+unfolding written
+one {byte} {x} {y} room same next bytes =
+    let size = ap length bytes ∙ length-set x.output.now x.len byte in record {
+      same_buffer = same;
+      len = next;
+      within = omega (arith, size);
+      size = size;
+      bytes = bytes ∙ set_split x.output.now x.len byte room ∙ rw (append_assoc, add-one);
+    }

@@ -12,15 +12,16 @@ pub struct Text<'a> {
 }
 
 impl Text<'_> {
-    // Appends bytes.
+    // Appends bytes, one at a time: `copy_from_slice` would call the C library's `memcpy`.
     #[inline]
     pub fn push(&mut self, bytes: &[u8])
         requires { HasRoom self.old (length bytes.now) }
         ensures { Appended bytes.now self.old self.new }
     {
-        let end = self.len + bytes.len();
-        self.output[self.len..end].copy_from_slice(bytes);
-        self.len = end;
+        for &byte in bytes {
+            self.output[self.len] = byte;
+            self.len += 1;
+        }
     }
 
     // Appends a number in decimal, and the bytes that end it.

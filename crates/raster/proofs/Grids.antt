@@ -1,5 +1,5 @@
 -- A grid's window with a raster of its length is a frame.
-use Rattle.std.proofs.Common.{ℕ, ◌≡◌, []}
+use Rattle.std.proofs.Common.{ℕ, ◌≡◌, [], false}
 use Rattle.refusal.specs.Refusal.{first_met}
 use Rattle.refusal.proofs.Conditions.{none_met}
 use Rattle.raster.specs.Window.{size_out, place_out, raster_bytes, frame_conditions}
@@ -8,8 +8,11 @@ use Rattle.raster.specs.declared.window.Window.{Window}
 use Rattle.raster.proofs.Frames.{Sized, Placed, Frame, sized, placed, size_in, frame}
 
 module _ (g : Grid) where
+  pub grid_in : size_out g.window ≡ false
+  grid_in = size_in g.window _ g.within
+
   pub grid_size : Sized g.window
-  grid_size = sized g.window (size_in g.window _ g.within)
+  grid_size = sized g.window grid_in
 
   pub grid_place : Placed g.window
   grid_place = placed g.window (none_met 2 (place_out g.window) [] (none_met 1 (size_out g.window) _ g.within).1).0

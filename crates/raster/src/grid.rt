@@ -13,33 +13,30 @@ pub struct Grid {
     pub ghost within: { first_met (window_conditions window) ≡ 0 },
 }
 
-// Its numbers are reckoned in 32 bits, in which they fit.
+// Its numbers are the window's, which ask nothing here: a grid has passed the test.
 impl Grid {
-    fn row_size(self) -> u32
-        ensures { result ≡ row_bytes self.window.width }
-    {
-        (self.window.width + 7) / 8
-    }
-
     // The bytes of a row.
+    #[tactic(auto, using(crate::proofs::Grids::grid_in))]
     pub fn row_bytes(self) -> usize
         ensures { result ≡ row_bytes self.window.width }
     {
-        self.row_size() as usize
+        self.window.row_bytes()
     }
 
     // The bits of a row, its padding among them.
+    #[tactic(auto, using(crate::proofs::Grids::grid_in))]
     pub fn row_bits(self) -> u32
         ensures { result ≡ 8 * row_bytes self.window.width }
     {
-        8 * self.row_size()
+        self.window.row_bits()
     }
 
     // The place of the first byte of row `row`, which is the raster's length for the row after the last.
+    #[tactic(auto, using(crate::proofs::Grids::grid_in))]
     pub fn row_start(self, row: u32) -> usize
         requires { row ≤ self.window.height }
         ensures { result ≡ row * row_bytes self.window.width }
     {
-        (row * self.row_size()) as usize
+        self.window.row_start(row)
     }
 }

@@ -110,11 +110,7 @@ module _ {A : Type 0} (x : Result A Refusal) (r : Refusal) (is : IsErrAnd x (λ 
   pub err_is : answered x ≡ turned_away r
   err_is = let p = err_from_is_err_and x is in rw (p.1, p.2)
 
-  -- its answer, by the number that the test looked at
-  pub handed_err : (n : ℕ) (a : A) → ◌≡◌ {A = Answer Unit} (turned_away r) (answer n tt) → answered x ≡ answer n a
-  handed_err n a e = err_is ∙ handed_on r n a e
-
-  -- and with further conditions
+  -- its answer, by the number of the first of some conditions, with further ones behind them
   pub handed_err_more : (cs ds : List (ℕ × Bool)) (a : A) → ◌≡◌ {A = Answer Unit} (turned_away r) (answer (first_met cs) tt)
       → answered x ≡ answer (first_met (cs ++ ds)) a
   handed_err_more cs ds a e = err_is ∙ handed_more r cs ds a e

@@ -58,7 +58,7 @@ struct Piece {
 fn natural_of(z: i32) -> u32
     ensures { result ≡ natural z }
 {
-    u32::try_from(z).unwrap_or(0)
+    z.max(0).unsigned_abs()
 }
 
 // Whether the run has no pixel, or one out of the coordinate range.

@@ -5,6 +5,7 @@ use Rattle.refusal.specs.Refusal.{first_met}
 use Rattle.raster.specs.Bits.{bit_of}
 use Rattle.raster.specs.Window.{window_conditions}
 use Rattle.raster.specs.declared.window.Window.{Window}
+use Rattle.raster.proofs.Grids.{grid_in}
 use Rattle.line.specs.Line.{long}
 use Rattle.line.specs.Distance.{distance}
 use Rattle.line.specs.Trace.{away}
@@ -86,8 +87,9 @@ overflow_sub-row c = omega (arith, inside (goal.at.overflow_sub-row c).Start, y 
 
 pub bit_of-bit-requires : goal.bit_of-bit-requires
 bit_of-bit-requires c =
+    let b = (goal.at.bit_of-bit-requires c).After-biased-2 in
     let place = inside (goal.at.bit_of-bit-requires c).Start in
-    (omega (arith, x c, left c), omega (arith, y c, top c))
+    (grid_in c.args.grid, omega (arith, x b, left b), omega (arith, y b, top b))
 
 pub returns : goal.returns
 returns c =

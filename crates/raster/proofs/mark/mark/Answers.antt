@@ -3,10 +3,13 @@ use Prim.Native.Nat.{ℕ}
 use mathlib.Core.Path.{refl, ap, ◌∙◌}
 use lib.Dec.{eqb}
 use Rattle.raster.specs.Bits.{with_bits}
-use Rattle.raster.proofs.Grids.{grid_frame}
+use Rattle.raster.proofs.Grids.{grid_in, grid_frame}
 use Rattle.raster.proofs.BitLaws.{point-plus, bit_within}
 use Rattle.raster.proofs.Fresh.{fresh_is, fresh_point}
 use Rattle.raster.proofs.mark.mark.Goals as goal
+
+pub bit_of-p-requires : goal.bit_of-p-requires
+bit_of-p-requires c = (grid_in c.args.grid, c.requires.1, c.requires.2)
 
 pub put_bit-requires : goal.put_bit-requires
 put_bit-requires c = let f = grid_frame c.args.grid _ c.requires.0 in

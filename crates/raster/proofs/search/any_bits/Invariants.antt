@@ -1,8 +1,7 @@
 -- While the bits so far are 0, so is each byte so far.
-use Prim.Native.Nat.{◌+◌}
 use mathlib.Core.Path.{◌≡◌}
 use Rattle.raster.specs.Search.{Zeros}
 use Rattle.raster.proofs.search.any_bits.Given as goal
 
 abbrev pub invariant-loop-byte : goal.invariant-loop-byte
-invariant-loop-byte l = l.bits ≡ 0 → Zeros l.fn.s l.fn.a (l.fn.a + l.byte-index)
+invariant-loop-byte l = l.bits ≡ 0 → Zeros l.bytes 0 l.byte-index

@@ -1,39 +1,29 @@
 -- Nothing is found while what is passed is unmarked: the rows above, the bytes before and the bits before.
-use Prim.Native.Nat.{◌+◌, ◌≤◌}
-use mathlib.Core.Path.{◌∙◌}
-use lib.ListN.{length}
+use Prim.Native.Nat.{ℕ, ◌*◌}
+use mathlib.Core.Path.{◌≡◌, sym, ap, ◌∙◌}
 use native.Mathlib.Omega.{arith}
-use Rattle.raster.proofs.Grids.{grid_size, grid_frame}
-use Rattle.raster.proofs.Passing.{row_in, bytes_on, bit_on, pixel_is, bit_set, bit_clear}
+use Rattle.raster.proofs.Grids.{grid_size}
+use Rattle.raster.proofs.Passing.{bytes_on, bit_on, pixel_is, bit_set, bit_clear}
 use Rattle.raster.proofs.Searching.{none_marked, first_is}
-use Rattle.raster.proofs.search.first_cell.Goals.{then-column-width+else-b-bit-eq1, else-column-width, In-rows}
+use Rattle.raster.proofs.search.first_cell.Goals.{then-column-width+else-b-bit-eq1, else-column-width, After-row_start-start}
 use Rattle.raster.proofs.search.first_cell.Goals as goal
 
--- the row that is looked at lies in the raster
-row_lies : (c : In-rows)
-    → (c.rows.start + c.row_bytes-bytes.result ≤ length c.args.raster.now)
-    × (c.row_bytes-bytes.result ≤ 1024)
-row_lies c =
-    row_in _ _ _ c.rows.row _ (grid_frame c.args.grid _ c.requires) c.row_bytes-bytes.ensures (omega arith) c.rows.invariant.start_is
-
-pub zero_bytes-zeros-requires : goal.zero_bytes-zeros-requires
-zero_bytes-zeros-requires c = (omega arith, (row_lies (goal.at.zero_bytes-zeros-requires c).In-rows).0)
+-- the row that is looked at begins at its number times the bytes of a row
+start_is : (c : After-row_start-start) → c.row_start-start.result ≡ c.rows.row * c.row_bytes-bytes.result
+start_is c = c.row_start-start.ensures ∙ ap (λ (b : ℕ). c.rows.row * b) (sym c.row_bytes-bytes.ensures)
 
 pub loop-byte-preserved-then-zeros-gt0 : goal.loop-byte-preserved-then-zeros-gt0
 loop-byte-preserved-then-zeros-gt0 c = record {
   in_row = omega arith;
   nothing = c.loop-byte.invariant.nothing;
-  passed = bytes_on c.args.raster.now _ _ _ _ _ _ c.rows.invariant.start_is c.zero_bytes-zeros.ensures.1 c.loop-byte.invariant.passed;
+  passed = bytes_on c.args.raster.now _ _ _ _ _ _ (start_is (goal.at.loop-byte-preserved-then-zeros-gt0 c).After-row_start-start) c.zero_bytes-zeros.ensures.1 c.loop-byte.invariant.passed;
 }
-
-pub bounds-raster-start : goal.bounds-raster-start
-bounds-raster-start c = omega (arith, row_lies (goal.at.bounds-raster-start c).In-rows)
 
 pub loop-bit-preserved : goal.loop-bit-preserved
 loop-bit-preserved c = record {
   nothing = c.loop-bit.invariant.nothing;
   passed =
-      bit_on c.args.raster.now _ _ _ _ _ c.loop-bit.bit c.rows.invariant.start_is (omega arith)
+      bit_on c.args.raster.now _ _ _ _ _ c.loop-bit.bit (start_is (goal.at.loop-bit-preserved c).After-row_start-start) (omega arith)
       (elim c.if-column-width.branch [
         | then-column-width+else-b-bit-eq1 w ↦ λ i. bit_clear _ _ w.if-b-bit-eq1.false
         | else-column-width w ↦ λ i. absurd (omega arith)
@@ -54,4 +44,4 @@ returns-then-b-bit-eq1 c =
     c.rows.invariant.passed
     c.loop-bit.invariant.passed
     (omega arith)
-    (pixel_is c.args.raster.now _ _ _ _ c.loop-bit.bit c.rows.invariant.start_is (omega arith) ∙ bit_set _ _ c.if-b-bit-eq1.true)
+    (pixel_is c.args.raster.now _ _ _ _ c.loop-bit.bit (start_is (goal.at.returns-then-b-bit-eq1 c).After-row_start-start) (omega arith) ∙ bit_set _ _ c.if-b-bit-eq1.true)

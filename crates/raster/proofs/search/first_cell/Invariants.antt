@@ -7,8 +7,7 @@ use Rattle.raster.specs.declared.search.Cell.{Cell}
 use Rattle.raster.proofs.Passing.{Passed, RowsPassed}
 use Rattle.raster.proofs.search.first_cell.Given as goal
 
-pub record RowsDone (raster : List ℕ) (bytes width : ℕ) (cell : Option Cell) (row start : ℕ) : Type 0 where
-  pub start_is : start ≡ row * bytes
+pub record RowsDone (raster : List ℕ) (bytes width : ℕ) (cell : Option Cell) (row : ℕ) : Type 0 where
   pub nothing : cell ≡ None
   pub passed : RowsPassed raster bytes width row
 
@@ -31,4 +30,4 @@ abbrev pub decreases-loop-byte : goal.decreases-loop-byte
 decreases-loop-byte l = l.bytes - l.byte
 
 abbrev pub invariant-rows : goal.invariant-rows
-invariant-rows l = RowsDone l.raster l.bytes l.width l.cell l.row l.start
+invariant-rows l = RowsDone l.raster l.bytes l.width l.cell l.row

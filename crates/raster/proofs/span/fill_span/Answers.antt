@@ -1,11 +1,11 @@
 -- The span's bits are set.
-use Prim.Native.Nat.{ℕ, ◌+◌, ◌*◌, ◌≤◌}
+use Prim.Native.Nat.{ℕ, ◌+◌, ◌*◌, ◌≤◌, ◌<◌}
 use mathlib.Core.Path.{ap, ◌∙◌}
 use native.Mathlib.Omega.{arith}
 use lib.ListN.{length}
 use Rattle.raster.specs.Bits.{with_bits, between}
 use Rattle.raster.proofs.Frames.{raster_max}
-use Rattle.raster.proofs.Grids.{grid_frame}
+use Rattle.raster.proofs.Grids.{grid_in, grid_frame}
 use Rattle.raster.proofs.BitLaws.{span-plus, span_within}
 use Rattle.raster.proofs.span.fill_span.Goals.{After-bit_of-from}
 use Rattle.raster.proofs.span.fill_span.Goals as goal
@@ -17,6 +17,9 @@ module _ (c : After-bit_of-from) where
       let f = grid_frame c.args.grid _ c.requires.0 in
       rw c.bit_of-from.ensures
       (span_within c.args.grid.window c.args.column c.args.row c.args.n _ f.shape c.requires.3 c.requires.1, raster_max c.args.grid.window _ f)
+
+pub bit_of-from-requires : goal.bit_of-from-requires
+bit_of-from-requires c = let p : c.args.column < c.args.grid.window.width = omega arith in (grid_in c.args.grid, p, c.requires.1)
 
 pub overflow_add-end : goal.overflow_add-end
 overflow_add-end c = record { fits = omega (arith, span_in c) }

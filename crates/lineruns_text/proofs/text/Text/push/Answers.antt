@@ -1,16 +1,13 @@
--- A copy into a part of the buffer leaves what is before it and behind it.
-use Rattle.std.proofs.Common.{rules, arith, length, ap, ◌∙◌}
-use Rattle.lineruns_text.proofs.Placing.{copied, length-written}
+-- Each turn appends one byte to the text so far.
+use Rattle.std.proofs.Common.{ℕ, arith, refl, length-take}
+use Rattle.std.proofs.lemmas.List.{take_more}
+use Rattle.lineruns_text.proofs.Placing.{both, nothing, one}
 use Rattle.lineruns_text.proofs.text.Text.push.Goals as goal
 
-pub returns : goal.returns
-returns c =
-    let text = c.args.self.now in
-    let same = copied text.len text.output.now c.args.bytes.now c.copy_from_slice.new.self (search rules) in
-    let size = ap length same ∙ length-written text.len c.args.bytes.now text.output.now c.requires in record {
-      same_buffer = search rules;
-      len = search rules;
-      within = omega (arith, size);
-      size = size;
-      bytes = same;
-    }
+pub loop-byte-init : goal.loop-byte-init
+loop-byte-init c = nothing c.args.self.now (omega arith)
+
+pub loop-byte-preserved : goal.loop-byte-preserved
+loop-byte-preserved c =
+    rw (take_more c.args.bytes.now c.loop-byte.byte-index 0 (omega arith))
+    (both c.loop-byte.invariant (one (omega (arith, length-take {A = ℕ})) refl refl refl))

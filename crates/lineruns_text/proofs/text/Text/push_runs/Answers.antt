@@ -18,7 +18,7 @@ push_run-requires c =
     let k = c.loop-across.across-index in
     let good = c.requires.good k (omega arith) in
     rw (c.as_chunks.ensures.front, handed_is c.args.list.now k (omega arith) good)
-    (omega (arith, line_length c.args.list.now k (omega arith) good))
+    (omega (arith, line_length c.args.list.now k good))
 
 pub loop-across-preserved : goal.loop-across-preserved
 loop-across-preserved c =
@@ -26,5 +26,5 @@ loop-across-preserved c =
     let good = c.requires.good k (omega arith) in
     let line = rw (c.as_chunks.ensures.front, handed_is c.args.list.now k (omega arith) good) at c.push_run.ensures in (
       rw (lines_more k (run_at c.args.list.now)) (both c.loop-across.invariant.0 line),
-      omega (arith, line.len, line_length c.args.list.now k (omega arith) good),
+      omega (arith, line.len, line_length c.args.list.now k good),
     )

@@ -7,7 +7,7 @@ use native.Mathlib.Omega.{arith}
 use Rattle.counting.proofs.Boolean.{or_neither}
 use Rattle.reel.proofs.Conditions.{same_not, file_in, answer_10, answer_11, answer_12, of_none}
 use Rattle.reel.proofs.Tests.{whole_off, table_same, front_size, records_same, rest_off}
-use Rattle.reel.proofs.file.ReelFile.open.Goals.{Else-file_out, In-Some, Else-table_off}
+use Rattle.reel.proofs.file.ReelFile.open.Goals.{Else-file_out, Else-table_off}
 use Rattle.reel.proofs.file.ReelFile.open.Goals as goal
 
 not_ten : (c : Else-file_out) → file_out c.args.file.now ≡ false
