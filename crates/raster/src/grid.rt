@@ -14,9 +14,9 @@ pub struct Grid {
 }
 
 // Its numbers are the window's, which ask nothing here: a grid has passed the test.
+#[tactic(auto, using(crate::proofs::Grids::grid_in))]
 impl Grid {
     // The bytes of a row.
-    #[tactic(auto, using(crate::proofs::Grids::grid_in))]
     pub fn row_bytes(self) -> usize
         ensures { result ≡ row_bytes self.window.width }
     {
@@ -24,7 +24,6 @@ impl Grid {
     }
 
     // The bits of a row, its padding among them.
-    #[tactic(auto, using(crate::proofs::Grids::grid_in))]
     pub fn row_bits(self) -> u32
         ensures { result ≡ 8 * row_bytes self.window.width }
     {
@@ -32,7 +31,6 @@ impl Grid {
     }
 
     // The place of the first byte of row `row`, which is the raster's length for the row after the last.
-    #[tactic(auto, using(crate::proofs::Grids::grid_in))]
     pub fn row_start(self, row: u32) -> usize
         requires { row ≤ self.window.height }
         ensures { result ≡ row * row_bytes self.window.width }
