@@ -40,7 +40,7 @@ struct Drawn {
 
 /// The counts of a drawing: its pixels in the window, and how many of them were unmarked.
 #[derive(Clone, Copy, Debug, PartialEq)]
-pub struct Marks {
+pub struct Counts {
     pub count: u64,
     pub fresh: u64,
 }
@@ -116,25 +116,25 @@ extern "C" {
 }
 
 /// The counts of a drawing. Every input here is lawful, so a refusal is a fault of this program.
-fn marks_of(drawn: Drawn) -> Marks {
+fn counts_of(drawn: Drawn) -> Counts {
     assert_eq!(drawn.refused, 0, "refused at place {}", drawn.place);
-    Marks {
+    Counts {
         count: drawn.count,
         fresh: drawn.fresh,
     }
 }
 
-pub fn draw_single(ends: Ends, window: Window, raster: &mut [u8]) -> Marks {
-    marks_of(unsafe { tc_draw_single(ends, window, raster.as_mut_ptr(), raster.len()) })
+pub fn draw_single(ends: Ends, window: Window, raster: &mut [u8]) -> Counts {
+    counts_of(unsafe { tc_draw_single(ends, window, raster.as_mut_ptr(), raster.len()) })
 }
 
-pub fn draw_double(ends: Ends, window: Window, raster: &mut [u8]) -> Marks {
-    marks_of(unsafe { tc_draw_double(ends, window, raster.as_mut_ptr(), raster.len()) })
+pub fn draw_double(ends: Ends, window: Window, raster: &mut [u8]) -> Counts {
+    counts_of(unsafe { tc_draw_double(ends, window, raster.as_mut_ptr(), raster.len()) })
 }
 
-pub fn draw_band(ends: Ends, window: Window, first: u32, rows: u32, raster: &mut [u8]) -> Marks {
+pub fn draw_band(ends: Ends, window: Window, first: u32, rows: u32, raster: &mut [u8]) -> Counts {
     let (start, len) = (raster.as_mut_ptr(), raster.len());
-    marks_of(unsafe { tc_draw_band(ends, window, first, rows, start, len) })
+    counts_of(unsafe { tc_draw_band(ends, window, first, rows, start, len) })
 }
 
 /// The axis (0: x, 1: y) and the number of runs.
@@ -144,10 +144,10 @@ pub fn list_runs(ends: Ends, list: &mut [i32]) -> (u32, u32) {
     (listed.axis, listed.runs)
 }
 
-pub fn paint_runs(axis: u32, count: u32, list: &[i32], window: Window, raster: &mut [u8]) -> Marks {
+pub fn paint_runs(axis: u32, count: u32, list: &[i32], window: Window, raster: &mut [u8]) -> Counts {
     let (runs, runs_len) = (list.as_ptr(), list.len());
     let (start, len) = (raster.as_mut_ptr(), raster.len());
-    marks_of(unsafe { tc_paint_runs(axis, count, runs, runs_len, window, start, len) })
+    counts_of(unsafe { tc_paint_runs(axis, count, runs, runs_len, window, start, len) })
 }
 
 /// The first marked pixel's column and row.
@@ -172,11 +172,11 @@ pub fn reel_write(list: &[i32], table: &[u32], out: &mut [u8]) {
 }
 
 /// Draws frame 0 of a reel's file in the whole window.
-pub fn reel_draw(file: &[u8], window: Window, raster: &mut [u8]) -> Marks {
+pub fn reel_draw(file: &[u8], window: Window, raster: &mut [u8]) -> Counts {
     let (start, len) = (raster.as_mut_ptr(), raster.len());
     let drawn = unsafe { tc_reel_draw(file.as_ptr(), file.len(), 0, window, 0, window.height, start, len) };
     assert_eq!((drawn.refused, drawn.found), (0, 1));
-    Marks {
+    Counts {
         count: drawn.count,
         fresh: drawn.fresh,
     }

@@ -12,7 +12,7 @@ fn marked(raster: &[u8]) -> u64 {
     raster.iter().map(|byte| u64::from(byte.count_ones())).sum()
 }
 
-/// Every drawer leaves the same raster, and answers the same count for each line. The new pixels of all lines, where a drawer
+/// Every drawer leaves the same raster, and answers the same count for each line. The fresh pixels of all lines, where a drawer
 /// counts them, are as many as are marked in the end.
 pub fn drawers(lines: &[Ends], buffers: &mut Buffers) {
     let mut first = None;
@@ -25,7 +25,7 @@ pub fn drawers(lines: &[Ends], buffers: &mut Buffers) {
         assert!(same, "{} differs", drawer.name());
         let fresh: Option<u64> = fresh.into_iter().sum();
         let same = fresh.is_none_or(|fresh| fresh == marked(&buffers.raster));
-        assert!(same, "{} differs in the new pixels", drawer.name());
+        assert!(same, "{} differs in the fresh pixels", drawer.name());
     }
 }
 

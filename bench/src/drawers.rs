@@ -1,7 +1,7 @@
 //! The drawers, by the library and by hand, on the frame's lines of each kind.
 use crate::byhand;
 use crate::byhand::line::Line;
-use crate::c::{self, Ends, Marks};
+use crate::c::{self, Counts, Ends};
 use crate::clock::{Buffers, Clock, Contestant};
 use crate::lines::{Kind, FRAME, KINDS, LINES};
 use crate::table::{markdown, Asked, Row};
@@ -40,14 +40,14 @@ pub const DRAWERS: [Drawer; 11] = [
 /// The hand-written drawer that the others are held against: the fastest one without window tests.
 const BASE: Drawer = ByBits;
 
-/// The same one, which counts the new pixels as the library does.
+/// The same one, which counts the fresh pixels as the library does.
 const COUNTED_BASE: Drawer = ByBitsCounted;
 
 impl Drawer {
     pub fn name(self) -> &'static str {
         match self {
             ByBits => "by hand, no window tests, bit index",
-            ByBitsCounted => "by hand, no window tests, bit index, new pixels counted",
+            ByBitsCounted => "by hand, no window tests, bit index, fresh pixels counted",
             ByPixels => "by hand, no window tests, column and row",
             Tested => "by hand, a window test at each pixel",
             Single => "single step",
@@ -60,10 +60,10 @@ impl Drawer {
         }
     }
 
-    /// Draws a line in the frame, and answers the number of its pixels, and of the new ones where the drawer counts them.
+    /// Draws a line in the frame, and answers the number of its pixels, and of the fresh ones where the drawer counts them.
     pub fn draw(self, ends: Ends, buffers: &mut Buffers) -> (u64, Option<u64>) {
         let raster = &mut buffers.raster;
-        let marks = match self {
+        let counts = match self {
             ByBits => return (byhand::draw::draw_by_bits(ends, FRAME, raster), None),
             ByPixels => return (byhand::draw::draw_by_pixels(ends, FRAME, raster), None),
             Tested => return (byhand::draw::draw_tested(ends, FRAME, raster), None),
@@ -76,7 +76,7 @@ impl Drawer {
             Bands16 => in_bands(16, ends, raster),
             Bands1 => in_bands(1, ends, raster),
         };
-        (marks.count, Some(marks.fresh))
+        (counts.count, Some(counts.fresh))
     }
 
     /// Draws all lines, and answers a number made of all counts.
@@ -89,20 +89,20 @@ impl Drawer {
     }
 }
 
-fn list_and_paint(ends: Ends, buffers: &mut Buffers) -> Marks {
+fn list_and_paint(ends: Ends, buffers: &mut Buffers) -> Counts {
     let (axis, runs) = c::list_runs(ends, &mut buffers.list);
     c::paint_runs(axis, runs, &buffers.list, FRAME, &mut buffers.raster)
 }
 
 /// Calls the band drawer for every band of the frame, from the top.
-fn in_bands(rows: u32, ends: Ends, raster: &mut [u8]) -> Marks {
-    let mut sums = Marks { count: 0, fresh: 0 };
+fn in_bands(rows: u32, ends: Ends, raster: &mut [u8]) -> Counts {
+    let mut sums = Counts { count: 0, fresh: 0 };
     let mut first = 0;
     while first < FRAME.height {
         let rows = rows.min(FRAME.height - first);
-        let marks = c::draw_band(ends, FRAME, first, rows, raster);
-        sums.count += marks.count;
-        sums.fresh += marks.fresh;
+        let counts = c::draw_band(ends, FRAME, first, rows, raster);
+        sums.count += counts.count;
+        sums.fresh += counts.fresh;
         first += rows;
     }
     sums

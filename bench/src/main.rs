@@ -104,7 +104,7 @@ side or further along it, and at most {LEAN} pixels across. Best of {ROUNDS} rou
 one after the other. All write the same raster, which is cleared before each, outside the time, so caches are warm. The
 list is not cleared. Listers, painters of runs, searches, small windows, a reel's file and the pen do their work {REPEATS}
 times in a round, with no clearing between. The hand-written drawers index the raster untested. Every drawer and painter of the
-library counts the new pixels, those that were unmarked; what stands beside it does so where that is said.
+library counts the fresh pixels, those that were unmarked; what stands beside it does so where that is said.
 
 Checked before the timing: contestants with the same work leave equal bytes and answer equal counts. These are the
 drawers and bands in the frame, the listers, painter and memset, the searches, what is found, written and drawn of a reel's

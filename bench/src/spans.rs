@@ -1,6 +1,6 @@
 //! Painting long runs along x beside memset over the same bytes.
 use crate::byhand::bytes::{fill_masked_runs, fill_masked_runs_counted, fill_runs};
-use crate::c::{self, Marks};
+use crate::c::{self, Counts};
 use crate::clock::{Clock, Contestant, REPEATS};
 use crate::lines::FRAME;
 use crate::table::{Asked, Row};
@@ -9,7 +9,7 @@ use crate::table::{Asked, Row};
 pub const LENGTHS: [i32; 4] = [512, 1024, 2048, 4096];
 
 const MASKED: &str = "memset between masked bytes";
-const COUNTED: &str = "memset between masked bytes, new pixels counted";
+const COUNTED: &str = "memset between masked bytes, fresh pixels counted";
 
 /// From this length on a run is long.
 const LONG: i32 = 1024;
@@ -26,13 +26,13 @@ struct Group {
 pub struct Spans(Vec<Group>);
 
 /// Paints a list of runs along x in the frame.
-pub fn paint(list: &[i32], raster: &mut [u8]) -> Marks {
+pub fn paint(list: &[i32], raster: &mut [u8]) -> Counts {
     c::paint_runs(0, list.len() as u32 / 3, list, FRAME, raster)
 }
 
 /// A number made of both counts.
-fn sum(marks: Marks) -> u64 {
-    marks.count + marks.fresh
+fn sum(counts: Counts) -> u64 {
+    counts.count + counts.fresh
 }
 
 impl Group {

@@ -1,5 +1,5 @@
 //! One case of each function: the library and the second implementation get the same arguments, and the whole answer, every
-//! element of every lent buffer and the guards are compared. The number of new pixels is compared with the bits that the call
+//! element of every lent buffer and the guards are compared. The number of fresh pixels is compared with the bits that the call
 //! changed as well.
 mod pen;
 pub mod reel;

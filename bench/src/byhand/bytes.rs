@@ -1,5 +1,5 @@
 //! Work on whole bytes: filling runs along x by memset, and looking for a byte.
-use crate::c::{Marks, Window};
+use crate::c::{Counts, Window};
 
 /// The bits of a byte from bit k on, and those up to and with bit k.
 const FROM: [u8; 8] = [255, 127, 63, 31, 15, 7, 3, 1];
@@ -53,20 +53,20 @@ fn set_counted(byte: &mut u8, bits: u8) -> u64 {
     u64::from(more.count_ones())
 }
 
-/// The same as `fill_masked_runs`, and counts the new pixels.
-pub fn fill_masked_runs_counted(list: &[i32], window: Window, raster: &mut [u8]) -> Marks {
-    let mut marks = Marks { count: 0, fresh: 0 };
+/// The same as `fill_masked_runs`, and counts the fresh pixels.
+pub fn fill_masked_runs_counted(list: &[i32], window: Window, raster: &mut [u8]) -> Counts {
+    let mut counts = Counts { count: 0, fresh: 0 };
     for run in list.chunks_exact(3) {
         let start = first_bit(run, window);
         let last = start + run[2] as usize - 1;
-        marks.fresh += set_counted(&mut raster[start / 8], FROM[start % 8]);
+        counts.fresh += set_counted(&mut raster[start / 8], FROM[start % 8]);
         let between = &mut raster[start / 8 + 1..last / 8];
-        marks.fresh += zeros(between);
+        counts.fresh += zeros(between);
         between.fill(255);
-        marks.fresh += set_counted(&mut raster[last / 8], UP_TO[last % 8]);
-        marks.count += run[2] as u64;
+        counts.fresh += set_counted(&mut raster[last / 8], UP_TO[last % 8]);
+        counts.count += run[2] as u64;
     }
-    marks
+    counts
 }
 
 /// The place of the first byte that is not 0.

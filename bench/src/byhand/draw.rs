@@ -1,9 +1,9 @@
 //! Bresenham's line. A drawer checks its line once and then indexes the raster untested, as a loop in C does. The rounding
 //! is the library's: halves go to the larger coordinate.
 use super::line::Line;
-use crate::c::{Ends, Marks, Window};
+use crate::c::{Counts, Ends, Window};
 
-/// Marks the bit `bit` of the raster.
+/// Counts the bit `bit` of the raster.
 ///
 /// # Safety
 /// The raster has a bit `bit`.
@@ -12,7 +12,7 @@ unsafe fn mark(raster: &mut [u8], bit: usize) {
     *raster.get_unchecked_mut(bit / 8) |= 128 >> (bit % 8);
 }
 
-/// Marks the bit `bit` of the raster: 1 if it was 0, else 0. It is done in 32 bits: in 8 the loop takes up to two thirds
+/// Counts the bit `bit` of the raster: 1 if it was 0, else 0. It is done in 32 bits: in 8 the loop takes up to two thirds
 /// longer.
 ///
 /// # Safety
@@ -45,7 +45,7 @@ fn each_bit(ends: Ends, window: Window, mut put: impl FnMut(usize)) -> u64 {
     let Line {
         long,
         short,
-        steep,
+        along_y,
         mut rest,
     } = Line::of(ends);
     let row_bits = 8 * window.row_bytes();
@@ -55,7 +55,7 @@ fn each_bit(ends: Ends, window: Window, mut put: impl FnMut(usize)) -> u64 {
     } else {
         (0, row_bits)
     };
-    let (flat_on, flat_back) = if steep { (down, up) } else { (right, left) };
+    let (flat_on, flat_back) = if along_y { (down, up) } else { (right, left) };
     let (diagonal_on, diagonal_back) = (right + down, left + up);
     let column = (ends.x0 - window.left) as usize;
     let row = (ends.y0 - window.top) as usize;
@@ -88,15 +88,15 @@ pub fn draw_by_bits(ends: Ends, window: Window, raster: &mut [u8]) -> u64 {
     })
 }
 
-/// The same, and counts the new pixels.
-pub fn draw_by_bits_counted(ends: Ends, window: Window, raster: &mut [u8]) -> Marks {
+/// The same, and counts the fresh pixels.
+pub fn draw_by_bits_counted(ends: Ends, window: Window, raster: &mut [u8]) -> Counts {
     check_inside(ends, window, raster);
     let mut fresh = 0;
     let count = each_bit(ends, window, |bit| {
         // SAFETY: every pixel of the line lies in the window.
         fresh += unsafe { mark_counted(raster, bit) };
     });
-    Marks { count, fresh }
+    Counts { count, fresh }
 }
 
 /// Calls `put` with column and row, counted from left and top, of each pixel: Bresenham's loop as it is mostly written.
@@ -105,7 +105,7 @@ fn each_pixel(ends: Ends, window: Window, mut put: impl FnMut(i32, i32)) {
     let Line {
         long,
         short,
-        steep,
+        along_y,
         mut rest,
     } = Line::of(ends);
     let (right, down) = ((ends.x1 - ends.x0).signum(), (ends.y1 - ends.y0).signum());
@@ -113,14 +113,14 @@ fn each_pixel(ends: Ends, window: Window, mut put: impl FnMut(i32, i32)) {
     for _ in 0..=long {
         put(column, row);
         rest += 2 * short;
-        if steep {
+        if along_y {
             row += down;
         } else {
             column += right;
         }
         if rest >= 2 * long {
             rest -= 2 * long;
-            if steep {
+            if along_y {
                 column += right;
             } else {
                 row += down;

@@ -6,7 +6,7 @@ use crate::c::Ends;
 pub struct Line {
     pub long: u32,
     pub short: u32,
-    pub steep: bool,
+    pub along_y: bool,
     pub rest: u32,
 }
 
@@ -14,12 +14,12 @@ impl Line {
     pub fn of(ends: Ends) -> Line {
         let columns = ends.x1.abs_diff(ends.x0);
         let rows = ends.y1.abs_diff(ends.y0);
-        let (long, steep) = (columns.max(rows), columns < rows);
-        let falls = if steep { ends.x1 < ends.x0 } else { ends.y1 < ends.y0 };
+        let (long, along_y) = (columns.max(rows), columns < rows);
+        let falls = if along_y { ends.x1 < ends.x0 } else { ends.y1 < ends.y0 };
         Line {
             long,
             short: columns.min(rows),
-            steep,
+            along_y,
             rest: long - u32::from(falls),
         }
     }

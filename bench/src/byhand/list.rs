@@ -14,13 +14,13 @@ pub fn list_runs(ends: Ends, list: &mut [i32]) -> (u32, u32) {
     let line = Line::of(ends);
     let last = list_but_last(ends, &line, list);
     put_last(ends, &line, last, list);
-    (u32::from(line.steep), line.short + 1)
+    (u32::from(line.along_y), line.short + 1)
 }
 
 /// The first end's coordinates along the long axis and across it, and whether each grows.
 fn lie_of(ends: Ends, line: &Line) -> (i32, i32, bool, bool) {
     let (right, down) = (ends.x0 < ends.x1, ends.y0 < ends.y1);
-    if line.steep {
+    if line.along_y {
         (ends.y0, ends.x0, down, right)
     } else {
         (ends.x0, ends.y0, right, down)

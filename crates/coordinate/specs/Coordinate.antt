@@ -1,8 +1,8 @@
 -- Document 01, 'Frame, raster, run list': the range of a coordinate, and its distance from the lowest. Assumes nothing.
 use Rattle.std.specs.Prelude.{ℕ, Bool, ◌||◌, ◌&&◌, ℤ, pos, neg_ℤ, nat_abs, ◌+ℤ◌, ◌-ℤ◌}
 use Rattle.std.specs.Int.Signed.{lt_z, le_z}
-use Rattle.coordinate.specs.declared.Axis.{Axis}
-use Rattle.coordinate.specs.declared.Axis.TheVariants.{X, Y}
+use Rattle.coordinate.specs.declared.axis.Axis.{Axis}
+use Rattle.coordinate.specs.declared.axis.Axis.TheVariants.{X, Y}
 
 -- a coordinate is from −16384 to 16383
 abbrev pub lowest : ℤ

@@ -30,6 +30,20 @@ unfolding count
 count_none zero f h = refl
 count_none (suc n) f h = rw (count_none n f (λ i l. h i (omega arith)), h n (omega arith))
 
+-- a test that is counted nowhere holds nowhere
+one_zero : (t : Bool) → one t ≡ 0 → t ≡ false
+one_zero true e = absurd (omega arith)
+one_zero false e = refl
+
+pub count_zero : (n : ℕ) (f : ℕ → Bool) → count n f ≡ 0 → (i : ℕ) → i < n → f i ≡ false
+unfolding count
+count_zero zero f z i l = absurd (omega arith)
+count_zero (suc n) f z i l =
+    elim (dec_lt i n) [
+      | yes p ↦ count_zero n f (omega (arith, z)) i p
+      | no p ↦ let same : i ≡ n = omega arith in ap f same ∙ one_zero (f n) (omega (arith, z))
+    ]
+
 -- at one number alone
 pub count_at : (n : ℕ) (f : ℕ → Bool) (k : ℕ) → k < n → count n (λ i. f i && eqb i k) ≡ one (f k)
 unfolding count

@@ -78,6 +78,16 @@ unfolding sum
 sum_none zero f h = refl
 sum_none (suc n) f h = rw (sum_none n f (λ i l. h i (omega arith)), h n (omega arith))
 
+-- a sum of 0 has no other term
+pub sum_zero : (n : ℕ) (f : ℕ → ℕ) → sum n f ≡ 0 → (i : ℕ) → i < n → f i ≡ 0
+unfolding sum
+sum_zero zero f z i l = absurd (omega arith)
+sum_zero (suc n) f z i l =
+    elim (dec_lt i n) [
+      | yes p ↦ sum_zero n f (omega (arith, z)) i p
+      | no p ↦ let same : i ≡ n = omega arith in omega (arith, z, ap f same)
+    ]
+
 -- one term alone
 pub sum_at : (n : ℕ) (f : ℕ → ℕ) (k : ℕ) → k < n → ((i : ℕ) → i < n → (i ≡ k → ⊥) → f i ≡ 0) → sum n f ≡ f k
 unfolding sum

@@ -2,12 +2,11 @@
 use crate::distance::from_lowest;
 use crate::second::{self, Frame, Place};
 use crate::small::LIST;
-use band::draw::draw_band;
-use band::rows::Band;
+use drawing::band::Band;
+use drawing::counts::Counts;
 use line::ends::Ends;
-use line_draw::draw::{draw_double, draw_single};
+use line_draw::draw::{draw_band, draw_double, draw_single};
 use line_list::list::list_runs;
-use raster::drawn::Marks;
 use raster::window::Window;
 use refusal::Refusal;
 use runs::paint::paint_runs;
@@ -29,7 +28,7 @@ pub fn on_clear<T, F: FnOnce(&mut [u8]) -> T>(length: usize, work: F) -> Option<
 }
 
 // Lists the line's runs and paints them; the counts, or the first refusal of the two.
-fn list_and_paint(ends: Ends, window: Window, raster: &mut [u8]) -> Result<Marks, Refusal> {
+fn list_and_paint(ends: Ends, window: Window, raster: &mut [u8]) -> Result<Counts, Refusal> {
     let mut list = [0i32; LIST];
     let listing = list_runs(ends, &mut list)?;
     paint_runs(listing.axis, listing.runs, &list, window, raster)
@@ -37,18 +36,18 @@ fn list_and_paint(ends: Ends, window: Window, raster: &mut [u8]) -> Result<Marks
 
 // Draws the line band by band, each row of the window a band; the sums of the counts, or the first refusal. The sums are at
 // most the line's pixels, so they never wrap.
-fn draw_rows(ends: Ends, window: Window, raster: &mut [u8]) -> Result<Marks, Refusal> {
+fn draw_each_row(ends: Ends, window: Window, raster: &mut [u8]) -> Result<Counts, Refusal> {
     let mut count: u64 = 0;
     let mut fresh: u64 = 0;
     for first in 0..window.height {
-        let marks = draw_band(ends, window, Band { first, rows: 1 }, raster)?;
-        count = count.wrapping_add(marks.count);
-        fresh = fresh.wrapping_add(marks.fresh);
+        let counts = draw_band(ends, window, Band { first, rows: 1 }, raster)?;
+        count = count.wrapping_add(counts.count);
+        fresh = fresh.wrapping_add(counts.fresh);
     }
-    Ok(Marks { count, fresh })
+    Ok(Counts { count, fresh })
 }
 
-// A line in a window, and what every drawer has to make of it on a clear raster: so many pixels, every one new, or this
+// A line in a window, and what every drawer has to make of it on a clear raster: so many pixels, every one fresh, or this
 // refusal; and the expected raster.
 #[derive(Clone, Copy)]
 struct Case<'a> {
@@ -59,20 +58,20 @@ struct Case<'a> {
 }
 
 impl Case<'_> {
-    // Whether a drawer makes this of the clear raster that is lent; and whether it then draws the same line again with no pixel new
+    // Whether a drawer makes this of the clear raster that is lent; and whether it then draws the same line again with no pixel fresh
     // and leaves the raster as it is.
-    fn holds_on<F: Fn(Ends, Window, &mut [u8]) -> Result<Marks, Refusal>>(
+    fn holds_on<F: Fn(Ends, Window, &mut [u8]) -> Result<Counts, Refusal>>(
         self,
         draw: F,
         raster: &mut [u8],
     ) -> bool
         requires { F.IsAlwaysCallable draw }
     {
-        let first = self.count.map(|count| Marks {
+        let first = self.count.map(|count| Counts {
             count,
             fresh: count,
         });
-        let again = self.count.map(|count| Marks { count, fresh: 0 });
+        let again = self.count.map(|count| Counts { count, fresh: 0 });
         if draw(self.ends, self.window, raster) != first || &*raster != self.expected {
             return false;
         }
@@ -80,7 +79,7 @@ impl Case<'_> {
     }
 
     // The same on a clear raster, which has room for the expected one.
-    fn holds_of<F: Fn(Ends, Window, &mut [u8]) -> Result<Marks, Refusal>>(self, draw: F) -> bool
+    fn holds_of<F: Fn(Ends, Window, &mut [u8]) -> Result<Counts, Refusal>>(self, draw: F) -> bool
         requires { F.IsAlwaysCallable draw }
     {
         on_clear(self.expected.len(), |raster| self.holds_on(draw, raster)).unwrap_or(false)
@@ -91,7 +90,7 @@ impl Case<'_> {
         self.holds_of(draw_single)
             && self.holds_of(draw_double)
             && self.holds_of(list_and_paint)
-            && self.holds_of(draw_rows)
+            && self.holds_of(draw_each_row)
     }
 }
 

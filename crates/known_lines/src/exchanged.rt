@@ -2,25 +2,25 @@
 // reverse order.
 use crate::drawers::alike;
 use crate::lettered::print_runs;
-use crate::print::{print_end, print_ends, print_marks};
+use crate::print::{print_counts, print_end, print_ends};
 use crate::small::{BYTES, LIST, WINDOW, list_line};
+use drawing::counts::Counts;
 use line::ends::Ends;
 use line_draw::draw::{draw_double, draw_single};
-use raster::drawn::Marks;
 use refusal::Refusal;
 use std::io;
 
 // Prints a drawer's counts and answers them. A refusal has counts of 0.
-fn print_drawn(rt: &impl Print, drawn: Result<Marks, Refusal>) -> io::Result<Marks> {
+fn print_drawn(rt: &impl Print, drawn: Result<Counts, Refusal>) -> io::Result<Counts> {
     match drawn {
-        Ok(marks) => {
+        Ok(counts) => {
             rt.print("; ")?;
-            print_marks(rt, marks)?;
-            Ok(marks)
+            print_counts(rt, counts)?;
+            Ok(counts)
         }
         Err(_) => {
             rt.print("; refused")?;
-            Ok(Marks { count: 0, fresh: 0 })
+            Ok(Counts { count: 0, fresh: 0 })
         }
     }
 }
@@ -30,10 +30,10 @@ fn reverse(a: &[[i32; 3]], b: &[[i32; 3]]) -> bool {
     a.len() == b.len() && a.iter().zip(b.iter().rev()).all(|(x, y)| x == y)
 }
 
-// Whether the line with its ends exchanged, drawn on the raster of the other, has as many pixels and none is new, so that
+// Whether the line with its ends exchanged, drawn on the raster of the other, has as many pixels and none is fresh, so that
 // both have the same pixels; and whether all drawers draw each of the two alike.
-fn same_pixels(ends: Ends, first: Marks, back: Ends, second: Marks) -> bool {
-    let same = Marks {
+fn same_pixels(ends: Ends, first: Counts, back: Ends, second: Counts) -> bool {
+    let same = Counts {
         count: first.count,
         fresh: 0,
     };

@@ -1,6 +1,6 @@
 // Document 01's lettered lines: their axis and runs, and the raster where the document gives one.
 use crate::drawers::{alike, bytes, on_clear};
-use crate::print::{print_end, print_ends, print_marks, print_window};
+use crate::print::{print_counts, print_end, print_ends, print_window};
 use crate::small::{LIST, WINDOW};
 use coordinate::Axis;
 use line::ends::Ends;
@@ -50,7 +50,7 @@ fn show(rt: &impl Print, letter: char, x0: i32, y0: i32, x1: i32, y1: i32) -> io
 }
 
 // Draws the line by the single-step drawer on the raster that is lent, and prints the bytes and the counts; then draws it once
-// more, by the double-step drawer, and prints how many pixels are new.
+// more, by the double-step drawer, and prints how many pixels are fresh.
 fn print_drawing_on(
     rt: &impl Print,
     ends: Ends,
@@ -58,18 +58,18 @@ fn print_drawing_on(
     raster: &mut [u8],
 ) -> io::Result<()> {
     match draw_single(ends, window, raster) {
-        Ok(marks) => {
+        Ok(counts) => {
             rt.print("bytes")?;
             for byte in raster.iter() {
                 print!(rt; " {byte}")?;
             }
             rt.print(", ")?;
-            print_marks(rt, marks)?;
+            print_counts(rt, counts)?;
         }
         Err(_) => rt.print("refused")?,
     }
     match draw_double(ends, window, raster) {
-        Ok(marks) => print!(rt; ", again {}", marks.fresh),
+        Ok(counts) => print!(rt; ", again {}", counts.fresh),
         Err(_) => rt.print("refused"),
     }
 }

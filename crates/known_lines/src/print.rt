@@ -1,6 +1,6 @@
 // Printing lines, windows and counts.
+use drawing::counts::Counts;
 use line::ends::Ends;
-use raster::drawn::Marks;
 use raster::window::Window;
 use std::io;
 
@@ -10,9 +10,9 @@ pub fn print_ends(rt: &impl Print, ends: Ends) -> io::Result<()> {
     print!(rt; "({x0},{y0}) to ({x1},{y1})")
 }
 
-// Prints how many pixels were marked and how many of them are new.
-pub fn print_marks(rt: &impl Print, marks: Marks) -> io::Result<()> {
-    let Marks { count, fresh } = marks;
+// Prints how many pixels were marked and how many of them are fresh.
+pub fn print_counts(rt: &impl Print, counts: Counts) -> io::Result<()> {
+    let Counts { count, fresh } = counts;
     print!(rt; "count {count}, new {fresh}")
 }
 

@@ -1,10 +1,10 @@
 -- Step i from one end is step L − i from the other: the exact short coordinate is the same number there, and so is the whole
 -- number nearest to it, whichever end is first.
 use Prim.Native.Nat.{ℕ, zero, suc, ◌+◌, ◌-◌, ◌≤◌, ◌<◌}
-use mathlib.Core.Path.{◌≡◌, refl, sym, ap, ap₂, ◌∙◌, fun_ext}
+use mathlib.Core.Path.{◌≡◌, refl, sym, ap, ap₂, ◌∙◌}
 use mathlib.Core.Logic.{inl, inr}
 use mathlib.Core.Bool.{Bool, true, false, cond, ◌&&◌, ◌||◌, or_comm}
-use mathlib.Core.List.{List}
+use mathlib.Core.List.{List, [], ◌∷◌}
 use native.Mathlib.Omega.{arith}
 use lib.IntN.{ℤ, pos, ◌+ℤ◌, ◌-ℤ◌}
 use lib.Signed.{lt_z}
@@ -15,23 +15,26 @@ use Rattle.counting.proofs.Counted.{count_cong}
 use Rattle.counting.proofs.Summed.{count_back}
 use Rattle.coordinate.specs.Coordinate.{out_of_range, apart, same}
 use Rattle.coordinate.specs.Nearest.{nearest}
-use Rattle.coordinate.specs.declared.Pixel.{Pixel}
+use Rattle.coordinate.specs.declared.pixel.Pixel.{Pixel}
 use Rattle.coordinate.proofs.Difference.{Diff, above, below, diff_parts, diff_eq, diff_plus, diff_less, diff_apart, diff_lt, diff_nlt}
-use Rattle.raster.specs.Raster.{plus, in_window}
-use Rattle.raster.specs.Fresh.{fresh_count}
-use Rattle.raster.specs.Drawn.{marks}
+use Rattle.raster.specs.Raster.{in_window}
 use Rattle.raster.specs.declared.window.Window.{Window}
+use Rattle.drawing.specs.Figure.{Figure}
+use Rattle.drawing.specs.Drawing.{draw_answer, draw_after, draw_raster}
+use Rattle.drawing.specs.Band.{band_answer, band_after}
+use Rattle.drawing.specs.Calls.{after_bands, band_calls}
+use Rattle.drawing.proofs.Same.{same_figure}
 use Rattle.interpolation.specs.Interpolation.{m, Rounding}
 use Rattle.interpolation.proofs.Exchanged.{Opposite, m_back}
 use Rattle.line.specs.Line.{long, short, axis, toward, interpolated, pixel, on_line, ends_out}
-use Rattle.line.specs.Distance.{offset, distance}
+use Rattle.line.specs.Distance.{half, distance}
 use Rattle.line.specs.PixelFacts.{first_long, second_long, first_across, second_across}
-use Rattle.line.specs.Drawing.{line_count, line_fresh, line_marks, line_raster}
+use Rattle.line.specs.Figure.{line_count, line_figure}
 use Rattle.line.specs.Exchanged.{exchanged, SamePixels, SameDrawing}
 use Rattle.line.specs.declared.ends.Ends.{Ends}
 use Rattle.line.proofs.Exact.{interpolated-nearest, exact_back}
 use Rattle.line.proofs.Laid.{laid, pixel_laid, by_axis}
-use Rattle.line.proofs.Halves.{offset_for, offset_is}
+use Rattle.line.proofs.Halves.{half_for, half_is}
 use Rattle.line.proofs.Pixels.{short_le, rounding}
 
 -- ---- from b to a
@@ -63,8 +66,8 @@ module _ (a b : ℤ) where
           (omega (arith, far, (diff_nlt b a _ _ _ _ B A).0 p, (diff_nlt a b _ _ _ _ A B).0 q))
 
   -- one of the two offsets rounds a half up and the other down, but where there is none
-  opposite_offsets : (L S : ℕ) → S ≡ apart a b → S ≤ L → Opposite (offset_for b a L) (offset_for a b L) L S
-  opposite_offsets L S z s = go (lt_z a b) (lt_z b a) refl refl
+  opposite_halves : (L S : ℕ) → S ≡ apart a b → S ≤ L → Opposite (half_for b a L) (half_for a b L) L S
+  opposite_halves L S z s = go (lt_z a b) (lt_z b a) refl refl
     where
       far : S ≡ (above b + below a - (below b + above a)) + (below b + above a - (above b + below a))
       far = omega (arith, diff_apart a b _ _ _ _ A B)
@@ -118,19 +121,19 @@ module _ (e : Ends) where
       (interpolated_back a b (long e) i j q (omega (arith, (by_axis e).1, short_le e)))
       ∙ sym (pixel_laid e j)
 
-  pub opposite : Opposite (offset (exchanged e)) (offset e) (long e) (short e)
+  pub opposite : Opposite (half (exchanged e)) (half e) (long e) (short e)
   opposite =
-      let w = opposite_offsets (first_across e) (second_across e) (long e) (short e) (by_axis e).1 (short_le e) in
-      let o = offset_is (exchanged e) in
-      rw (o, axis_back, long_back_lem, offset_is e) w
+      let w = opposite_halves (first_across e) (second_across e) (long e) (short e) (by_axis e).1 (short_le e) in
+      let o = half_is (exchanged e) in
+      rw (o, axis_back, long_back_lem, half_is e) w
 
-  pub rounding_back : Rounding (offset (exchanged e)) (long e)
+  pub rounding_back : Rounding (half (exchanged e)) (long e)
   rounding_back = rw long_back_lem at (rounding (exchanged e))
 
   distance_back : (i j : ℕ) → i + j ≡ long e → distance (exchanged e) i + distance e j ≡ short e
   unfolding distance
   distance_back i j q =
-      let there = ap₂ (λ (L S : ℕ). m (offset (exchanged e)) L S i) long_back_lem short_back in
+      let there = ap₂ (λ (L S : ℕ). m (half (exchanged e)) L S i) long_back_lem short_back in
       omega (arith, m_back rounding_back (rounding e) (short_le e) opposite i j q)
 
   -- a pixel is one of the line's whichever end is first
@@ -169,6 +172,11 @@ module _ (e : Ends) where
       ∙ count_cong (suc (long e)) _ _ (λ i l. ap (in_window w) (pixel_back i (suc (long e) - 1 - i) (omega arith)))
       ∙ count_back (suc (long e)) here
 
+  -- and as the figure that is drawn
+  figure_back : line_figure (exchanged e) ≡ line_figure e
+  figure_back =
+      same_figure (line_figure (exchanged e)) (line_figure e) (ap (λ (out : Bool). (1, out) ∷ []) ends_out_back) on_back counts_back
+
   -- the same pixels, step by step from the other end
   pub same_pixels : SamePixels e
   same_pixels =
@@ -181,20 +189,17 @@ module _ (e : Ends) where
         on_line_lem = on_back;
         ends_out_lem = ends_out_back;
         counts = counts_back;
+        figure_is = figure_back;
       }
 
-  -- as predicates, by which a drawing is defined
-  pub same_predicate : on_line (exchanged e) ≡ on_line e
-  same_predicate = fun_ext (λ x. fun_ext (λ y. on_back x y))
-
-  module _ (w : Window) (s : List ℕ) where
-    pub same-marks : line_marks (exchanged e) w s ≡ line_marks e w s
-    unfolding line_fresh
-    same-marks = ap₂ marks (counts_back w) (ap (fresh_count w s) same_predicate)
-
-    pub same_raster : line_raster (exchanged e) w s ≡ line_raster e w s
-    unfolding line_raster
-    same_raster = ap (plus w s) same_predicate
-
-    pub same_drawing : SameDrawing e w s
-    same_drawing = record { answers = rw (ends_out_back, same-marks); leaves = rw (ends_out_back, same_raster); raster_is = same_raster }
+  pub same_drawing : (w : Window) (s : List ℕ) → SameDrawing e w s
+  same_drawing w s =
+      record {
+        answers = ap (λ (f : Figure). draw_answer f w s) figure_back;
+        leaves = ap (λ (f : Figure). draw_after f w s) figure_back;
+        raster_is = ap (λ (f : Figure). draw_raster f w s) figure_back;
+        band_answers = λ b. ap (λ (f : Figure). band_answer f w s b) figure_back;
+        band_leaves = λ b. ap (λ (f : Figure). band_after f w s b) figure_back;
+        calls_answer = λ bands. ap (λ (f : Figure). band_calls f w s bands) figure_back;
+        calls_leave = λ bands. ap (λ (f : Figure). after_bands f w s bands) figure_back;
+      }

@@ -2,28 +2,24 @@
 -- its start but there, and both are alike to each other.
 use Prim.Native.Nat.{ℕ, suc, ◌≤◌}
 use mathlib.Core.Path.{◌≡◌, refl, sym, ap, ap₂, ◌∙◌}
-use mathlib.Core.Bool.{true, false, ◌&&◌}
+use mathlib.Core.Bool.{Bool, true, false, ◌&&◌}
 use mathlib.Core.List.{List}
 use native.Mathlib.Omega.{arith}
 use lib.IntN.{ℤ}
-use lib.ListN.{length}
 use borrow.Author.Tests.{le-leb}
 use Rattle.counting.proofs.Boolean.{clash, never, and_both, both_and}
 use Rattle.counting.proofs.Any.{any_find, any_make}
 use Rattle.coordinate.specs.Coordinate.{apart, same}
-use Rattle.coordinate.specs.declared.Pixel.{Pixel}
+use Rattle.coordinate.specs.declared.pixel.Pixel.{Pixel}
 use Rattle.coordinate.proofs.Difference.{diff_parts, diff_apart, same_eq}
-use Rattle.refusal.specs.Refusal.{first_met}
-use Rattle.raster.specs.Alike.{AlikeBut}
 use Rattle.raster.specs.declared.window.Window.{Window}
-use Rattle.raster.proofs.Frames.{frame}
-use Rattle.raster.proofs.Alike.{alike_both, drawing_alike}
+use Rattle.raster.proofs.Alike.{alike_both}
+use Rattle.drawing.proofs.Alike.{whole_alike, band_alike, bands_alike}
 use Rattle.line.specs.Line.{long, pixel, on_line, long_of, across_of}
-use Rattle.line.specs.Drawing.{line_conditions, line_raster, draw_after}
 use Rattle.line.specs.Nudge.{Nudged, nudge, reach, near_step, near_line, ChangesLittle}
 use Rattle.line.specs.Shorthand.{at}
 use Rattle.line.specs.declared.ends.Ends.{Ends}
-use Rattle.line.proofs.Conditions.{frame_in}
+use Rattle.line.proofs.Drawable.{line_drawable}
 use Rattle.line.proofs.Nudge.{moves_little}
 
 -- one of the line's pixels is that of a step
@@ -70,10 +66,16 @@ module _ (e f : Ends) (n : Nudged e f) where
   off_second = let m = moves_little e f n in off e (nudge e f) f m.long_is m.long_stays m.short_moves
 
   module _ (w : Window) (s : List ℕ) where
-    drawn : (g : Ends) → ((x y : ℤ) → near_line e (nudge e f) x y ≡ false → on_line g x y ≡ false)
-        → AlikeBut w (near_line e (nudge e f)) s (draw_after g w s)
-    unfolding line_raster
-    drawn g = drawing_alike w _ s (first_met (line_conditions g w (length s))) (λ h. (frame w (length s) (frame_in g w (length s) h)).shape) (on_line g)
+    abbrev near_e : ℤ → ℤ → Bool
+    near_e = near_line e (nudge e f)
 
-    pub changes_little : ChangesLittle e f w s
-    changes_little = alike_both w _ s (draw_after e w s) (draw_after f w s) (drawn e off_first) (drawn f off_second)
+    pub changes_little : ChangesLittle near_e e f w s
+    changes_little =
+        record {
+          whole = alike_both w near_e s _ _ (whole_alike _ (line_drawable e) w near_e off_first s) (whole_alike _ (line_drawable f) w near_e off_second s);
+          in_band =
+              λ b. alike_both w near_e s _ _ (band_alike _ (line_drawable e) w near_e off_first s b) (band_alike _ (line_drawable f) w near_e off_second s b);
+          by_calls =
+              λ bands.
+              alike_both w near_e s _ _ (bands_alike _ (line_drawable e) w near_e off_first s bands) (bands_alike _ (line_drawable f) w near_e off_second s bands);
+        }

@@ -2,9 +2,13 @@
 -- every drawing of it is the same; the proof is in proofs/Exchanged.antt. Assumes nothing.
 use Rattle.std.specs.Prelude.{ℕ, ◌+◌, ◌-◌, ◌≤◌, ◌≡◌, List, ℤ}
 use Rattle.raster.specs.declared.window.Window.{Window}
+use Rattle.drawing.specs.Drawing.{draw_answer, draw_after, draw_raster}
+use Rattle.drawing.specs.Band.{band_answer, band_after}
+use Rattle.drawing.specs.Calls.{after_bands, band_calls}
+use Rattle.drawing.specs.declared.band.Band.{Band}
 use Rattle.line.specs.Line.{long, short, axis, pixel, on_line, ends_out}
 use Rattle.line.specs.Distance.{distance}
-use Rattle.line.specs.Drawing.{line_count, line_raster, draw_answer, draw_after}
+use Rattle.line.specs.Figure.{line_count, line_figure}
 use Rattle.line.specs.declared.ends.Ends.{Ends}
 
 -- the second end first
@@ -22,10 +26,18 @@ pub record SamePixels (e : Ends) : Type 0 where
   pub ends_out_lem : ends_out (exchanged e) ≡ ends_out e
   -- as many of its pixels lie in a window
   pub counts : (w : Window) → line_count (exchanged e) w ≡ line_count e w
+  -- so it is the same figure, and every drawing of it, whole, in bands or among others, is the same
+  pub figure_is : line_figure (exchanged e) ≡ line_figure e
 
 -- in every window and on every start both counts are the same, or the refusal is, and so is the raster in every byte
 pub record SameDrawing (e : Ends) (w : Window) (s : List ℕ) : Type 0 where
-  pub answers : draw_answer (exchanged e) w s ≡ draw_answer e w s
-  pub leaves : draw_after (exchanged e) w s ≡ draw_after e w s
+  pub answers : draw_answer (line_figure (exchanged e)) w s ≡ draw_answer (line_figure e) w s
+  pub leaves : draw_after (line_figure (exchanged e)) w s ≡ draw_after (line_figure e) w s
   -- the start plus the line's pixels, where nothing is refused
-  pub raster_is : line_raster (exchanged e) w s ≡ line_raster e w s
+  pub raster_is : draw_raster (line_figure (exchanged e)) w s ≡ draw_raster (line_figure e) w s
+  -- in a band
+  pub band_answers : (b : Band) → band_answer (line_figure (exchanged e)) w s b ≡ band_answer (line_figure e) w s b
+  pub band_leaves : (b : Band) → band_after (line_figure (exchanged e)) w s b ≡ band_after (line_figure e) w s b
+  -- by a list of band calls
+  pub calls_answer : (bands : List Band) → band_calls (line_figure (exchanged e)) w s bands ≡ band_calls (line_figure e) w s bands
+  pub calls_leave : (bands : List Band) → after_bands (line_figure (exchanged e)) w s bands ≡ after_bands (line_figure e) w s bands

@@ -1,8 +1,8 @@
 pub mod Line
 pub mod Distance
 pub mod PixelFacts
+pub mod Figure
 pub mod Exchanged
-pub mod Drawing
 pub mod Nudge
 pub mod Shorthand
 pub mod KnownNudges

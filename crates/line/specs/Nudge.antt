@@ -5,12 +5,16 @@ use Rattle.std.specs.Prelude.{ℕ, suc, ◌-◌, ◌*◌, ◌≤◌, ◌≡◌, 
 use Rattle.counting.specs.Count.{any}
 use Rattle.coordinate.specs.Coordinate.{apart, same}
 use Rattle.coordinate.specs.Nearest.{ceil_div}
-use Rattle.coordinate.specs.declared.Pixel.{Pixel}
+use Rattle.coordinate.specs.declared.pixel.Pixel.{Pixel}
 use Rattle.raster.specs.Alike.{AlikeBut}
 use Rattle.raster.specs.declared.window.Window.{Window}
+use Rattle.drawing.specs.Drawing.{draw_after}
+use Rattle.drawing.specs.Band.{band_after}
+use Rattle.drawing.specs.Calls.{after_bands}
+use Rattle.drawing.specs.declared.band.Band.{Band}
 use Rattle.line.specs.Line.{long, axis, pixel, long_of, across_of}
 use Rattle.line.specs.PixelFacts.{second_long, second_across}
-use Rattle.line.specs.Drawing.{draw_after}
+use Rattle.line.specs.Figure.{line_figure}
 use Rattle.line.specs.Exchanged.{exchanged}
 use Rattle.line.specs.declared.ends.Ends.{Ends}
 
@@ -50,9 +54,12 @@ unfoldable pub near_line : Ends → ℕ → ℤ → ℤ → Bool
 unfolding long near_step
 near_line e d column row = any (suc (long e)) (λ i. near_step e d i (record { column = column; row = row }))
 
--- drawn in the same window on the same start, the rasters differ at such pixels only
-abbrev pub ChangesLittle : Ends → Ends → Window → List ℕ → Type 0
-ChangesLittle e f w s = AlikeBut w (near_line e (nudge e f)) (draw_after e w s) (draw_after f w s)
+-- drawn in the same window on the same start, the rasters differ at pixels that are `near` only: whole, in a band, and by a list of
+-- band calls
+pub record ChangesLittle (near : ℤ → ℤ → Bool) (e f : Ends) (w : Window) (s : List ℕ) : Type 0 where
+  pub whole : AlikeBut w near (draw_after (line_figure e) w s) (draw_after (line_figure f) w s)
+  pub in_band : (b : Band) → AlikeBut w near (band_after (line_figure e) w s b) (band_after (line_figure f) w s b)
+  pub by_calls : (bands : List Band) → AlikeBut w near (after_bands (line_figure e) w s bands) (after_bands (line_figure f) w s bands)
 
 -- Where the first end is nudged and the second stays, the line with its ends exchanged has its second end nudged: at step i the
 -- pixels differ by at most (L − i) × d / L, rounded up.
@@ -61,11 +68,10 @@ pub record FirstMovesLittle (e f : Ends) : Type 0 where
   pub long_stays : (i : ℕ) → i ≤ long e → long_of e (pixel f i) ≡ long_of e (pixel e i)
   pub short_moves : (i : ℕ) → i ≤ long e
       → apart (across_of e (pixel e i)) (across_of e (pixel f i)) ≤ reach e (nudge (exchanged e) (exchanged f)) (long e - i)
-  pub rasters : (w : Window) (s : List ℕ)
-      → AlikeBut w (near_line (exchanged e) (nudge (exchanged e) (exchanged f))) (draw_after e w s) (draw_after f w s)
+  pub rasters : (w : Window) (s : List ℕ) → ChangesLittle (near_line (exchanged e) (nudge (exchanged e) (exchanged f))) e f w s
 
 -- all of it, of all ends
 pub record NudgeFacts (e f : Ends) : Type 0 where
   pub pixels : Nudged e f → MovesLittle e f
-  pub rasters : Nudged e f → (w : Window) (s : List ℕ) → ChangesLittle e f w s
+  pub rasters : Nudged e f → (w : Window) (s : List ℕ) → ChangesLittle (near_line e (nudge e f)) e f w s
   pub first_end : Nudged (exchanged e) (exchanged f) → FirstMovesLittle e f

@@ -15,7 +15,7 @@ use raster::mark::bit_of;
 #[derive(Clone, Copy)]
 pub struct Spot {
     pub bit: usize,
-    pub rest: u32,
+    pub decision: u32,
 }
 
 // Two steps on: the bit between them, the bit after them and its decision number.
@@ -23,7 +23,7 @@ pub struct Spot {
 struct Two {
     middle: usize,
     bit: usize,
-    rest: u32,
+    decision: u32,
 }
 
 // A walk through a line in a window, and the step at which it stands.
@@ -43,13 +43,13 @@ fn spot_of(line: Line, grid: Grid, i: u32) -> Spot
     ensures { Stands line.ends grid.window i result }
 {
     let short = line.slope.short_at(i);
-    let rest = short.rest;
+    let decision = short.decision;
     let x = line.columns.at(along(line.axis, i, short.distance));
     let y = line.rows.at(along(line.axis, short.distance, i));
     let column = x - Coordinate::biased(grid.window.left);
     let row = y - Coordinate::biased(grid.window.top);
     let bit = bit_of(grid.window, column, row);
-    Spot { bit, rest }
+    Spot { bit, decision }
 }
 
 impl Walker {
@@ -79,18 +79,18 @@ impl Walker {
         let flat = self.strides.flat;
         let diagonal = self.strides.diagonal();
         let bit = self.spot.bit;
-        let rest = self.spot.rest;
+        let decision = self.spot.decision;
         let twice = 2 * self.line.slope.short;
         let turn = 2 * self.line.slope.long - twice;
-        if turn <= rest {
+        if turn <= decision {
             return Spot {
                 bit: bit + diagonal.on - diagonal.back,
-                rest: rest - turn,
+                decision: decision - turn,
             };
         }
         Spot {
             bit: bit + flat.on - flat.back,
-            rest: rest + twice,
+            decision: decision + twice,
         }
     }
 
@@ -106,27 +106,27 @@ impl Walker {
     // Two steps on of which one is diagonal: flat first, or diagonal first.
     fn mixed(self) -> Two
         requires shown { Shown self.line.ends self.grid.window self.step (self.step + 3) }
-        requires one_diagonal { (2 * self.line.slope.long ≤ self.spot.rest + 4 * self.line.slope.short) × (self.spot.rest + 4 * self.line.slope.short < 4 * self.line.slope.long) }
+        requires one_diagonal { (2 * self.line.slope.long ≤ self.spot.decision + 4 * self.line.slope.short) × (self.spot.decision + 4 * self.line.slope.short < 4 * self.line.slope.long) }
         ensures { Pair self.line.ends self.grid.window self.step result }
     {
         let flat = self.strides.flat;
         let diagonal = self.strides.diagonal();
         let bit = self.spot.bit;
-        let rest = self.spot.rest;
+        let decision = self.spot.decision;
         let twice = 2 * self.line.slope.short;
         let turn = 2 * self.line.slope.long;
         let after = bit + (flat.on + diagonal.on) - (flat.back + diagonal.back);
-        if rest < turn - twice {
+        if decision < turn - twice {
             return Two {
                 middle: bit + flat.on - flat.back,
                 bit: after,
-                rest: rest + 2 * twice - turn,
+                decision: decision + 2 * twice - turn,
             };
         }
         Two {
             middle: bit + diagonal.on - diagonal.back,
             bit: after,
-            rest: rest + 2 * twice - turn,
+            decision: decision + 2 * twice - turn,
         }
     }
 
@@ -138,14 +138,14 @@ impl Walker {
     {
         let flat = self.strides.flat;
         let bit = self.spot.bit;
-        let rest = self.spot.rest;
+        let decision = self.spot.decision;
         let four = 4 * self.line.slope.short;
         let turn = 2 * self.line.slope.long;
-        if rest < turn - four {
+        if decision < turn - four {
             return Two {
                 middle: bit + flat.on - flat.back,
                 bit: bit + (flat.on + flat.on) - (flat.back + flat.back),
-                rest: rest + four,
+                decision: decision + four,
             };
         }
         self.mixed()
@@ -159,13 +159,13 @@ impl Walker {
     {
         let diagonal = self.strides.diagonal();
         let bit = self.spot.bit;
-        let rest = self.spot.rest;
+        let decision = self.spot.decision;
         let turns = 4 * self.line.slope.long - 4 * self.line.slope.short;
-        if rest >= turns {
+        if decision >= turns {
             return Two {
                 middle: bit + diagonal.on - diagonal.back,
                 bit: bit + (diagonal.on + diagonal.on) - (diagonal.back + diagonal.back),
-                rest: rest - turns,
+                decision: decision - turns,
             };
         }
         self.mixed()
@@ -191,7 +191,7 @@ impl Walker {
         let two = self.two();
         self.spot = Spot {
             bit: two.bit,
-            rest: two.rest,
+            decision: two.decision,
         };
         self.step += 2;
         two.middle

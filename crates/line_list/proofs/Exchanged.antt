@@ -10,22 +10,24 @@ use lib.ListN.{length, drop}
 use Rattle.counting.specs.Count.{each}
 use Rattle.counting.proofs.Each.{each_cong, each_back}
 use Rattle.coordinate.specs.Coordinate.{along}
-use Rattle.coordinate.specs.declared.Axis.{Axis}
+use Rattle.coordinate.specs.declared.axis.Axis.{Axis}
 use Rattle.coordinate.proofs.Difference.{diff_parts, diff_eq, diff_lt, diff_nlt}
 use Rattle.interpolation.specs.Runs.{run_first, run_pixels}
 use Rattle.interpolation.proofs.Exchanged.{first_back, pixels_back}
 use Rattle.refusal.specs.Refusal.{given, first_met}
 use Rattle.raster.specs.declared.window.Window.{Window}
+use Rattle.drawing.specs.Figure.{Figure}
+use Rattle.drawing.specs.Drawing.{draw_counts, draw_raster, draw_conditions}
 use Rattle.runs.specs.Run.{Run, run_list}
 use Rattle.line.specs.Line.{long, short, toward, long_of, across_of}
-use Rattle.line.specs.Distance.{offset, pixel_at}
+use Rattle.line.specs.Distance.{half, pixel_at}
 use Rattle.line.specs.PixelFacts.{first_long, second_long, first_across, second_across}
-use Rattle.line.specs.Drawing.{line_conditions}
+use Rattle.line.specs.Figure.{line_figure}
 use Rattle.line.specs.Exchanged.{exchanged}
 use Rattle.line.specs.declared.ends.Ends.{Ends}
 use Rattle.line.proofs.Laid.{long-at, across_at, by_axis}
 use Rattle.line.proofs.Pixels.{short_le, rounding}
-use Rattle.line.proofs.Exchanged.{toward_back, opposite, rounding_back, same_pixels, same-marks, same_raster}
+use Rattle.line.proofs.Exchanged.{toward_back, opposite, rounding_back, same_pixels}
 use Rattle.line_list.specs.Runs.{lies, lower, first_step, pixels_of, run, runs}
 use Rattle.line_list.specs.Listing.{line_list}
 use Rattle.line_list.specs.RunFacts.{ListedAndPainted}
@@ -67,12 +69,12 @@ module _ (e : Ends) where
   module _ (k l : ℕ) (q : k + l ≡ short e) where
     pixels_are : pixels_of (exchanged e) k ≡ pixels_of e l
     pixels_are =
-        ap₂ (λ (L S : ℕ). run_pixels (offset (exchanged e)) L S k) (same_pixels e).long_is (same_pixels e).short_is
+        ap₂ (λ (L S : ℕ). run_pixels (half (exchanged e)) L S k) (same_pixels e).long_is (same_pixels e).short_is
         ∙ sym (pixels_back (rounding_back e) (rounding e) (short_le e) (opposite e) l k (omega arith))
 
     first_are : first_step (exchanged e) k + first_step e (l + 1) ≡ long e + 1
     first_are =
-        let x = ap₂ (λ (L S : ℕ). run_first (offset (exchanged e)) L S k) (same_pixels e).long_is (same_pixels e).short_is in
+        let x = ap₂ (λ (L S : ℕ). run_first (half (exchanged e)) L S k) (same_pixels e).long_is (same_pixels e).short_is in
         omega (arith, first_back (rounding_back e) (rounding e) (short_le e) (opposite e) (l + 1) k (omega arith))
 
     some : 1 ≤ pixels_of e l
@@ -123,13 +125,13 @@ module _ (e : Ends) where
         }
 
     module _ (w : Window) (s : List ℕ) where
-      painted : first_met (line_conditions e w (length s)) ≡ 0 → ListedAndPainted (exchanged e) list w s
-      painted h = listed_and_painted (exchanged e) list w s (rw (same_pixels e).ends_out_lem h)
+      painted : first_met (draw_conditions (line_figure e) w (length s)) ≡ 0 → ListedAndPainted (exchanged e) list w s
+      painted h = listed_and_painted (exchanged e) list w s (ap (λ (f : Figure). first_met (draw_conditions f w (length s))) (same_pixels e).figure_is ∙ h)
 
       pub reversed_painted : ReversedPainted e list w s
       reversed_painted =
           let p = same_pixels e in
           record {
-            answer_is = λ h. (rw (p.axis_is, p.short_is) at (painted h).answer_is) ∙ ap given (same-marks e w s);
-            raster_is = λ h. (rw (p.axis_is, p.short_is) at (painted h).raster_is) ∙ same_raster e w s;
+            answer_is = λ h. (rw (p.axis_is, p.short_is) at (painted h).answer_is) ∙ ap (λ (f : Figure). given (draw_counts f w s)) p.figure_is;
+            raster_is = λ h. (rw (p.axis_is, p.short_is) at (painted h).raster_is) ∙ ap (λ (f : Figure). draw_raster f w s) p.figure_is;
           }

@@ -7,13 +7,13 @@ use Rattle.interpolation.specs.Runs.{run_first, run_pixels}
 use Rattle.raster.specs.Raster.{worth, bit, byte, over, bit_has, plus, marked, in_window}
 use Rattle.raster.specs.Fresh.{fresh_count}
 use Rattle.line.specs.Line.{long, short, axis, interpolated, pixel, on_line, long_of, across_of}
-use Rattle.line.specs.Distance.{short_falls, offset, distance, pixel_at}
-use Rattle.line.specs.Drawing.{line_count, line_fresh, line_raster}
+use Rattle.line.specs.Distance.{short_falls, half, distance, pixel_at}
+use Rattle.line.specs.Figure.{line_count}
 use Rattle.line_list.specs.Runs.{run, runs}
-use Rattle.line_list.specs.Known.{Lettered, LetteredNew, KnownHalves, codes}
+use Rattle.line_list.specs.Known.{Lettered, LetteredFresh, KnownHalves, codes}
 
 pub lettered : Lettered
-unfolding any count each m run_first run_pixels worth bit byte over bit_has plus in_window floor_div nearest long short axis interpolated pixel on_line short_falls offset distance pixel_at long_of across_of run runs line_count line_raster codes
+unfolding any count each m run_first run_pixels worth bit byte over bit_has plus in_window floor_div nearest long short axis interpolated pixel on_line short_falls half distance pixel_at long_of across_of run runs line_count codes
 lettered =
     record {
       A = (refl, refl);
@@ -29,9 +29,9 @@ lettered =
       K = refl;
     }
 
-pub lettered_new : LetteredNew
-unfolding any count sum worth bit marked fresh_count floor_div nearest long short axis interpolated pixel on_line line_fresh
-lettered_new = record { D = refl; E = refl; J = refl; K = refl }
+pub lettered_fresh : LetteredFresh
+unfolding any count sum worth bit marked fresh_count floor_div nearest long short axis interpolated pixel on_line
+lettered_fresh = record { D = refl; E = refl; J = refl; K = refl }
 
 pub known_halves : KnownHalves
 unfolding each floor_div nearest long axis interpolated pixel

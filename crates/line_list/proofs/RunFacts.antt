@@ -1,6 +1,6 @@
 -- Every step is in one run, once, so a test of the line's pixels and a count of them go run by run, from a run list too.
 use Prim.Native.Nat.{ℕ, zero, suc, ◌+◌, ◌*◌, ◌≤◌, ◌<◌}
-use mathlib.Core.Path.{◌≡◌, refl, sym, ap, ap₂, ◌∙◌, fun_ext}
+use mathlib.Core.Path.{◌≡◌, refl, sym, ap, ◌∙◌}
 use mathlib.Core.Bool.{Bool, true, false, ◌||◌}
 use mathlib.Core.List.{List, [], ◌∷◌, ◌++◌}
 use native.Mathlib.Omega.{arith}
@@ -18,21 +18,21 @@ use Rattle.counting.proofs.First.{first_none}
 use Rattle.counting.proofs.Each.{each-length}
 use Rattle.counting.proofs.Summed.{sum_cong, count_sum}
 use Rattle.coordinate.specs.Coordinate.{out_of_range}
-use Rattle.coordinate.specs.declared.Pixel.{Pixel}
-use Rattle.refusal.specs.Refusal.{given, first_met}
-use Rattle.raster.specs.Raster.{plus, in_window}
+use Rattle.coordinate.specs.declared.pixel.Pixel.{Pixel}
+use Rattle.refusal.specs.Refusal.{first_met}
+use Rattle.raster.specs.Raster.{in_window}
 use Rattle.raster.specs.Bits.{point}
-use Rattle.raster.specs.Fresh.{fresh_count}
-use Rattle.raster.specs.Drawn.{marks}
 use Rattle.raster.specs.declared.window.Window.{Window}
+use Rattle.drawing.specs.Drawing.{draw_conditions}
+use Rattle.drawing.proofs.Conditions.{figure_in, frame_in}
 use Rattle.runs.specs.Run.{Run, numbers, run_list, run_pixel, in_run, run_count}
-use Rattle.runs.specs.Painting.{stored_across, stored_lowest, stored_pixels, natural, run_at, run_bad, first_bad, in_runs, paint_count, paint_conditions}
-use Rattle.runs.proofs.Outcome.{all_passed}
+use Rattle.runs.specs.Painting.{stored_across, stored_lowest, stored_pixels, natural, run_at, run_bad, first_bad, runs_figure}
+use Rattle.runs.proofs.Paints.{paints_as_drawn}
 use Rattle.line.specs.Line.{long, short, axis, pixel, on_line, ends_out}
 use Rattle.line.specs.Distance.{distance}
-use Rattle.line.specs.Drawing.{line_count, line_fresh, line_raster, line_conditions}
+use Rattle.line.specs.Figure.{line_count, line_figure}
 use Rattle.line.specs.declared.ends.Ends.{Ends}
-use Rattle.line.proofs.Conditions.{ends_in, frame_in}
+use Rattle.line.proofs.Drawable.{ends_in, line_drawable}
 use Rattle.line.proofs.Pixels.{distance_max}
 use Rattle.line_list.specs.Runs.{first_step, pixels_of, run, runs}
 use Rattle.line_list.specs.Listing.{line_list}
@@ -192,47 +192,40 @@ module _ (e : Ends) (rest : List ℤ) where
         first_bad_lem = first_none (short e + 1) (run_bad (list_then e rest)) (λ k l. stored_good k l p);
       }
 
-  painted-marks : (column row : ℤ) → in_runs (axis e) (list_then e rest) (short e + 1) column row ≡ on_line e column row
-  unfolding in_runs
-  painted-marks column row = any_cong (short e + 1) _ _ (λ k l. ap (λ (r : Run). in_run (axis e) r column row) (run_back k l)) ∙ runs_mark e column row
+  painted_has : (column row : ℤ) → (runs_figure (axis e) (list_then e rest) (short e + 1)).has column row ≡ on_line e column row
+  painted_has column row = any_cong (short e + 1) _ _ (λ k l. ap (λ (r : Run). in_run (axis e) r column row) (run_back k l)) ∙ runs_mark e column row
 
-  painted-count : (w : Window) → paint_count (axis e) (list_then e rest) (short e + 1) w ≡ line_count e w
-  unfolding paint_count
-  painted-count w = sum_cong (short e + 1) _ _ (λ k l. ap (λ (r : Run). run_count (axis e) r w) (run_back k l)) ∙ runs-count e w
+  painted_count : (w : Window) → (runs_figure (axis e) (list_then e rest) (short e + 1)).count w ≡ line_count e w
+  painted_count w = sum_cong (short e + 1) _ _ (λ k l. ap (λ (r : Run). run_count (axis e) r w) (run_back k l)) ∙ runs-count e w
 
-  painted_pixels : in_runs (axis e) (list_then e rest) (short e + 1) ≡ on_line e
-  painted_pixels = fun_ext (λ x. fun_ext (λ y. painted-marks x y))
+  long_enough : 3 * (short e + 1) ≤ length (list_then e rest)
+  long_enough = omega (arith, read_back.length_is, length-append (run_list (runs e)) rest)
 
   -- painting the line's run list is drawing the line
   pub paints_line : Painted e rest
-  unfolding line_raster line_fresh
   paints_line =
       record {
-        allowed = λ p. (none_bad p).first_bad_lem;
-        marks = painted-marks;
-        counts = painted-count;
-        raster = λ w s. ap (plus w s) painted_pixels;
-        fresh = λ w s. ap (fresh_count w s) painted_pixels;
+        has = painted_has;
+        counts = painted_count;
+        room = long_enough;
+        paints =
+            λ p w.
+            record {
+              room = long_enough;
+              none_bad = (none_bad p).first_bad_lem;
+              has = λ c r lc lr. painted_has _ _;
+              counts = painted_count w;
+            };
       }
 
 -- ---- lister and painter
 
-module _ (e : Ends) (list : List ℤ) (w : Window) (s : List ℕ) (h : first_met (line_conditions e w (length s)) ≡ 0) where
-  rest : List ℤ
-  rest = drop (3 * (short e + 1)) list
-
-  long_enough : 3 * (short e + 1) ≤ length (line_list e list)
-  unfolding line_list rest
-  long_enough = omega (arith, (read_back e rest).length_is, length-append (run_list (runs e)) rest)
-
-  paint_met : first_met (paint_conditions w (length s) (line_list e list) (short e + 1)) ≡ 0
-  paint_met = all_passed w (length s) (line_list e list) (short e + 1) (frame_in e w _ h) long_enough
-
+module _ (e : Ends) (list : List ℤ) (w : Window) (s : List ℕ) (h : first_met (draw_conditions (line_figure e) w (length s)) ≡ 0) where
   -- painting what the lister left is drawing the line, in the painter's whole answer
   pub listed_and_painted : ListedAndPainted e list w s
-  unfolding line_list rest
+  unfolding line_list
   listed_and_painted =
-      record {
-        answer_is = rw (paint_met, (none_bad e rest (ends_in e w _ h)).first_bad_lem) (ap given (ap₂ marks ((paints_line e rest).counts w) ((paints_line e rest).fresh w s)));
-        raster_is = rw (paint_met, (none_bad e rest (ends_in e w _ h)).first_bad_lem) ((paints_line e rest).raster w s);
-      }
+      let d = line_drawable e in
+      let drawn = paints_as_drawn (line_figure e) w (axis e) (list_then e (drop (3 * (short e + 1)) list)) (short e + 1)
+      ((paints_line e (drop (3 * (short e + 1)) list)).paints (ends_in e (figure_in (line_figure e) d w _ h)) w) s (frame_in (line_figure e) d w _ h) in
+      record { answer_is = drawn.answer_is; raster_is = drawn.raster_is }

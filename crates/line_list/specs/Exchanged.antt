@@ -3,10 +3,11 @@
 use Rattle.std.specs.Prelude.{ℕ, ◌+◌, ◌-◌, ◌*◌, ◌≤◌, ◌≡◌, List, ◌++◌, reverse, ℤ, length, drop}
 use Rattle.refusal.specs.Refusal.{given, unless_refused, first_met}
 use Rattle.raster.specs.declared.window.Window.{Window}
+use Rattle.drawing.specs.Drawing.{draw_counts, draw_raster, draw_conditions}
 use Rattle.runs.specs.Run.{run_list}
 use Rattle.runs.specs.Painting.{paint_answer, paint_after}
 use Rattle.line.specs.Line.{short, axis}
-use Rattle.line.specs.Drawing.{line_marks, line_raster, line_conditions}
+use Rattle.line.specs.Figure.{line_figure}
 use Rattle.line.specs.Exchanged.{exchanged}
 use Rattle.line.specs.declared.ends.Ends.{Ends}
 use Rattle.line_list.specs.Runs.{run, runs}
@@ -27,7 +28,7 @@ pub record ListReversed (e : Ends) (list : List ℤ) : Type 0 where
 -- the painter, given that list with a window and a start within the limits, draws the line: its counts and its raster are the
 -- drawers'
 pub record ReversedPainted (e : Ends) (list : List ℤ) (w : Window) (s : List ℕ) : Type 0 where
-  pub answer_is : first_met (line_conditions e w (length s)) ≡ 0
-      → paint_answer (axis e) (short e + 1) (line_list (exchanged e) list) w s ≡ given (line_marks e w s)
-  pub raster_is : first_met (line_conditions e w (length s)) ≡ 0
-      → paint_after (axis e) (short e + 1) (line_list (exchanged e) list) w s ≡ line_raster e w s
+  pub answer_is : first_met (draw_conditions (line_figure e) w (length s)) ≡ 0
+      → paint_answer (axis e) (short e + 1) (line_list (exchanged e) list) w s ≡ given (draw_counts (line_figure e) w s)
+  pub raster_is : first_met (draw_conditions (line_figure e) w (length s)) ≡ 0
+      → paint_after (axis e) (short e + 1) (line_list (exchanged e) list) w s ≡ draw_raster (line_figure e) w s

@@ -2,11 +2,12 @@
 -- statements about the definitions; their proof, by computation, is in proofs/Known.antt. Assumes nothing.
 use Rattle.std.specs.Prelude.{ℕ, ◌+◌, ◌-◌, ◌≡◌, List, [], ◌∷◌, pos}
 use Rattle.counting.specs.Count.{each}
-use Rattle.coordinate.specs.declared.Axis.TheVariants.{X, Y}
+use Rattle.coordinate.specs.declared.axis.Axis.TheVariants.{X, Y}
 use Rattle.raster.specs.declared.window.Window.{Window}
+use Rattle.drawing.specs.Drawing.{draw_counts, draw_raster}
 use Rattle.line.specs.Line.{long, axis, pixel}
 use Rattle.line.specs.Distance.{distance}
-use Rattle.line.specs.Drawing.{line_count, line_fresh, line_raster}
+use Rattle.line.specs.Figure.{line_count, line_figure}
 use Rattle.line.specs.Shorthand.{from, at, minus}
 use Rattle.line.specs.declared.ends.Ends.{Ends}
 use Rattle.line_list.specs.Runs.{lies, runs}
@@ -39,19 +40,19 @@ pub record Lettered : Type 0 where
   pub H : codes line_h ≡ 0 ∷ 1 ∷ 0 ∷ 0 ∷ 0 ∷ 1 ∷ 0 ∷ 0 ∷ 0 ∷ 1 ∷ 0 ∷ []
   pub I : runs (from (pos 0) (pos 0) (minus 11) (minus 3))
       ≡ lies (pos 0) (minus 1) 2 ∷ lies (minus 1) (minus 5) 4 ∷ lies (minus 2) (minus 9) 4 ∷ lies (minus 3) (minus 11) 2 ∷ []
-  pub J : (line_raster (from (minus 3) (pos 0) (pos 3) (pos 0)) (sized 4 1) (0 ∷ []) ≡ 240 ∷ [])
+  pub J : (draw_raster (line_figure (from (minus 3) (pos 0) (pos 3) (pos 0))) (sized 4 1) (0 ∷ []) ≡ 240 ∷ [])
       × (line_count (from (minus 3) (pos 0) (pos 3) (pos 0)) (sized 4 1) ≡ 4)
-  pub K : line_raster line_h (sized 12 4) (0 ∷ 0 ∷ 0 ∷ 0 ∷ 0 ∷ 0 ∷ 0 ∷ 0 ∷ []) ≡ 192 ∷ 0 ∷ 60 ∷ 0 ∷ 3 ∷ 192 ∷ 0 ∷ 48 ∷ []
+  pub K : draw_raster (line_figure line_h) (sized 12 4) (0 ∷ 0 ∷ 0 ∷ 0 ∷ 0 ∷ 0 ∷ 0 ∷ 0 ∷ []) ≡ 192 ∷ 0 ∷ 60 ∷ 0 ∷ 3 ∷ 192 ∷ 0 ∷ 48 ∷ []
 
--- how many pixels of lettered lines are new
-pub record LetteredNew : Type 0 where
+-- how many pixels of lettered lines are fresh
+pub record LetteredFresh : Type 0 where
   -- all of line D's on a clear raster; none of line E's over it, which is line D from the other end
-  pub D : line_fresh (from (pos 0) (pos 0) (pos 2) (pos 1)) (sized 3 2) (0 ∷ 0 ∷ []) ≡ 3
-  pub E : line_fresh (from (pos 2) (pos 1) (pos 0) (pos 0)) (sized 3 2) (128 ∷ 96 ∷ []) ≡ 0
+  pub D : (draw_counts (line_figure (from (pos 0) (pos 0) (pos 2) (pos 1))) (sized 3 2) (0 ∷ 0 ∷ [])).fresh ≡ 3
+  pub E : (draw_counts (line_figure (from (pos 2) (pos 1) (pos 0) (pos 0))) (sized 3 2) (128 ∷ 96 ∷ [])).fresh ≡ 0
   -- padding that is marked is no pixel
-  pub J : line_fresh (from (minus 3) (pos 0) (pos 3) (pos 0)) (sized 4 1) (15 ∷ []) ≡ 4
+  pub J : (draw_counts (line_figure (from (minus 3) (pos 0) (pos 3) (pos 0))) (sized 4 1) (15 ∷ [])).fresh ≡ 4
   -- none of line K's over itself
-  pub K : line_fresh line_h (sized 12 4) (192 ∷ 0 ∷ 60 ∷ 0 ∷ 3 ∷ 192 ∷ 0 ∷ 48 ∷ []) ≡ 0
+  pub K : (draw_counts (line_figure line_h) (sized 12 4) (192 ∷ 0 ∷ 60 ∷ 0 ∷ 3 ∷ 192 ∷ 0 ∷ 48 ∷ [])).fresh ≡ 0
 
 -- the pixel between the ends of each line from (0,0) with L = 2 and S = 1, named by the direction along the long axis and then
 -- the other: its exact short coordinate is 1/2, which goes to 1, or −1/2, which goes to 0

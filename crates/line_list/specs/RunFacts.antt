@@ -6,14 +6,14 @@ use Rattle.std.specs.Int.Signed.{lt_z}
 use Rattle.counting.specs.Count.{any, sum}
 use Rattle.coordinate.specs.Coordinate.{along}
 use Rattle.refusal.specs.Refusal.{given}
-use Rattle.raster.specs.Raster.{plus}
-use Rattle.raster.specs.Fresh.{fresh_count}
 use Rattle.raster.specs.declared.window.Window.{Window}
+use Rattle.drawing.specs.Drawing.{draw_counts, draw_raster}
 use Rattle.runs.specs.Run.{run_list, run_pixel, in_run, run_count}
-use Rattle.runs.specs.Painting.{stored_across, stored_lowest, stored_pixels, run_at, run_bad, first_bad, in_runs, paint_count, paint_answer, paint_after}
+use Rattle.runs.specs.Painting.{stored_across, stored_lowest, stored_pixels, run_at, run_bad, first_bad, runs_figure, paint_answer, paint_after}
+use Rattle.runs.specs.Paints.{Paints}
 use Rattle.line.specs.Line.{long, short, axis, pixel, on_line, ends_out}
 use Rattle.line.specs.Distance.{distance}
-use Rattle.line.specs.Drawing.{line_count, line_fresh, line_marks, line_raster}
+use Rattle.line.specs.Figure.{line_count, line_figure}
 use Rattle.line.specs.declared.ends.Ends.{Ends}
 use Rattle.line_list.specs.Runs.{first_step, pixels_of, run, runs}
 use Rattle.line_list.specs.Listing.{line_list}
@@ -79,14 +79,13 @@ pub record NoneBad (e : Ends) (rest : List ℤ) : Type 0 where
 
 -- painting the line's run list is drawing the line
 pub record Painted (e : Ends) (rest : List ℤ) : Type 0 where
-  pub allowed : ends_out e ≡ false → first_bad (list_then e rest) (short e + 1) ≡ None
-  pub marks : (column row : ℤ) → in_runs (axis e) (list_then e rest) (short e + 1) column row ≡ on_line e column row
-  pub counts : (w : Window) → paint_count (axis e) (list_then e rest) (short e + 1) w ≡ line_count e w
-  pub raster : (w : Window) (s : List ℕ) → plus w s (in_runs (axis e) (list_then e rest) (short e + 1)) ≡ line_raster e w s
-  pub fresh : (w : Window) (s : List ℕ) → fresh_count w s (in_runs (axis e) (list_then e rest) (short e + 1)) ≡ line_fresh e w s
+  pub has : (column row : ℤ) → (runs_figure (axis e) (list_then e rest) (short e + 1)).has column row ≡ on_line e column row
+  pub counts : (w : Window) → (runs_figure (axis e) (list_then e rest) (short e + 1)).count w ≡ line_count e w
+  pub room : 3 * (short e + 1) ≤ length (list_then e rest)
+  pub paints : ends_out e ≡ false → (w : Window) → Paints (line_figure e) w (axis e) (list_then e rest) (short e + 1)
 
 -- the painter, given the axis, the number of runs and the list that the lister left, does not refuse: its raster and its
 -- counts are the drawers'
 pub record ListedAndPainted (e : Ends) (list : List ℤ) (w : Window) (s : List ℕ) : Type 0 where
-  pub answer_is : paint_answer (axis e) (short e + 1) (line_list e list) w s ≡ given (line_marks e w s)
-  pub raster_is : paint_after (axis e) (short e + 1) (line_list e list) w s ≡ line_raster e w s
+  pub answer_is : paint_answer (axis e) (short e + 1) (line_list e list) w s ≡ given (draw_counts (line_figure e) w s)
+  pub raster_is : paint_after (axis e) (short e + 1) (line_list e list) w s ≡ draw_raster (line_figure e) w s

@@ -7,7 +7,7 @@ use Rattle.counting.proofs.Boolean.{tell, bool_iff}
 use Rattle.counting.proofs.Each.{each_cong}
 use Rattle.coordinate.specs.Coordinate.{along}
 use Rattle.refusal.specs.Refusal.{Answer, given, turned_away, unless_refused, number_of, number, first_met}
-use Rattle.refusal.specs.declared.Refusal.{Refusal}
+use Rattle.refusal.specs.declared.refusal.Refusal.{Refusal}
 use Rattle.refusal.proofs.Conditions.{none_met}
 use Rattle.refusal.proofs.Handing.{turned, number_is, number-answer}
 use Rattle.std.proofs.lemmas.List.{take_at}

@@ -13,7 +13,7 @@ use lib.Ieee.Scale.{finite}
 use lib.Dec.{lit<}
 use Rattle.coordinate.specs.Coordinate.{out_of_range}
 use Rattle.coordinate.specs.Nearest.{NearestFacts}
-use Rattle.coordinate.specs.declared.Pixel.{Pixel}
+use Rattle.coordinate.specs.declared.pixel.Pixel.{Pixel}
 use Rattle.coordinate.proofs.Nearest.{nearest_facts}
 use Rattle.refusal.specs.Refusal.{given, refused, answer, first_met}
 use Rattle.refusal.proofs.Handing.{given_by}

@@ -4,7 +4,7 @@ use Rattle.std.specs.Prelude.{◌*◌, ◌≤◌, ◌≡◌, true, false, ℤ, p
 use Rattle.std.specs.Float.Ieee.Scale.{finite}
 use Rattle.coordinate.specs.Coordinate.{apart, out_of_range}
 use Rattle.coordinate.specs.Nearest.{WithinHalf}
-use Rattle.coordinate.specs.declared.Pixel.{Pixel}
+use Rattle.coordinate.specs.declared.pixel.Pixel.{Pixel}
 use Rattle.refusal.specs.Refusal.{given, refused}
 use Rattle.pen.specs.Worth.{numerator, denominator}
 use Rattle.pen.specs.Touching.{touch_answer}

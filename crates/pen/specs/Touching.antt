@@ -2,7 +2,7 @@
 use Rattle.std.specs.Prelude.{ℕ, Bool, not, ◌||◌, List, [], ◌∷◌, Option, None, Some}
 use Rattle.std.specs.Float.Ieee.Scale.{finite}
 use Rattle.coordinate.specs.Coordinate.{out_of_range}
-use Rattle.coordinate.specs.declared.Pixel.{Pixel}
+use Rattle.coordinate.specs.declared.pixel.Pixel.{Pixel}
 use Rattle.refusal.specs.Refusal.{Answer, given, answer, first_met}
 use Rattle.pen.specs.Worth.{nearest_to}
 use Rattle.pen.specs.declared.report.Point.{Point}

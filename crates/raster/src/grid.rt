@@ -17,7 +17,7 @@ pub struct Grid {
 #[tactic(auto, using(crate::proofs::Grids::grid_in))]
 impl Grid {
     // The bytes of a row.
-    pub fn row_bytes(self) -> usize
+    pub fn row_bytes(self) -> u32
         ensures { result ≡ row_bytes self.window.width }
     {
         self.window.row_bytes()

@@ -12,19 +12,18 @@ use Rattle.refusal.proofs.Conditions.{append_none, append_clear}
 use Rattle.raster.specs.Window.{frame_conditions}
 use Rattle.raster.specs.Fresh.{marked_count}
 use Rattle.raster.specs.declared.window.Window.{Window}
+use Rattle.drawing.specs.Band.{band_out, rows_conditions}
+use Rattle.drawing.specs.declared.band.Band.{Band}
 use Rattle.raster.proofs.Frames.{Shaped, frame, frame_numbered}
 use Rattle.raster.proofs.Fresh.{marked-plus}
-use Rattle.band.specs.Drawing.{band_out}
 use Rattle.reel.specs.Reel.{encoded, table}
 use Rattle.reel.specs.Reading.{file_conditions, frame_part, part_of, find_answer, records_in}
 use Rattle.reel.specs.Writing.{write_conditions}
 use Rattle.reel.specs.RoundTrip.{Written, frame_records}
 use Rattle.reel.specs.declared.find.FramePart.{FramePart}
 use Rattle.reel.proofs.RoundTrip.{written}
-use Rattle.reel_draw.specs.Records.{records_fresh, records_raster}
-use Rattle.band.specs.Drawing.{rows_conditions}
-use Rattle.reel_draw.specs.Drawing.{frame_band_conditions, part_marks, part_raster}
-use Rattle.reel_draw.specs.FrameFacts.{NeverOne, FrameAdds, new_of, DrawnAsWritten}
+use Rattle.reel_draw.specs.Drawing.{frame_band_conditions, part_counts, part_raster}
+use Rattle.reel_draw.specs.FrameFacts.{NeverOne, FrameAdds, fresh_of_frame, DrawnAsWritten}
 use Rattle.reel_draw.proofs.RecordLaws.{record_in}
 use Rattle.reel_draw.proofs.PartLaws.{found_within}
 use Rattle.reel_draw.proofs.FrameLaws.{rows_numbered}
@@ -39,31 +38,30 @@ never_one file e k j l h =
     let part : FramePart = frame_part (table file) k in
     record_in (records_in file part) (found_within file k part (part-found file k e l)).1 j h
 
--- ---- the new pixels
+-- ---- the fresh pixels
 
-module _ (file : List ℕ) (w : Window) (s : List ℕ) (f r : ℕ) where
+module _ (file : List ℕ) (w : Window) (s : List ℕ) (b : Band) where
   abbrev number : ℕ
-  number = first_met (frame_band_conditions file w (length s) f r)
+  number = first_met (frame_band_conditions file w (length s) b)
 
   shaped : number ≡ 0 → Shaped w (length s)
   shaped e =
-      let rows = (append_none (rows_conditions w (length s) f r) (file_conditions file) (rows_numbered w (length s) f r) e).0 in
-      (frame w (length s) (append_none (frame_conditions w (length s)) ((6, band_out w f r) ∷ []) (frame_numbered w (length s)) rows).0).shape
+      let rows = (append_none (rows_conditions w (length s) b) (file_conditions file) (rows_numbered w (length s) b) e).0 in
+      (frame w (length s) (append_none (frame_conditions w (length s)) ((6, band_out w b) ∷ []) (frame_numbered w (length s)) rows).0).shape
 
   adds : (n : ℕ) → number ≡ n → (p : Option FramePart)
-      → marked_count w (unless_refused n (part_raster file p w f r s) s) ≡ marked_count w s + new_of (answer n (part_marks file p w s f r))
-  unfolding records_raster records_fresh
+      → marked_count w (unless_refused n (part_raster file p w b s) s) ≡ marked_count w s + fresh_of_frame (answer n (part_counts file p w s b))
   adds zero e None = sym (add-zero (marked_count w s))
   adds zero e (Some part) = marked-plus w s (shaped e) _
   adds (suc n) e p = sym (add-zero (marked_count w s))
 
-  pub frame_adds : (k : ℕ) → FrameAdds file k w s f r
+  pub frame_adds : (k : ℕ) → FrameAdds file k w s b
   frame_adds k = adds number refl (part_of (table file) k)
 
 -- ---- a written file
 
 module _ (list : List ℤ) (numbers : List ℕ) (n : ℕ) (e : first_met (write_conditions list numbers n) ≡ 0)
-    (k : ℕ) (l : k < length numbers) (w : Window) (s : List ℕ) (f r : ℕ) where
+    (k : ℕ) (l : k < length numbers) (w : Window) (s : List ℕ) (b : Band) where
   file_is : Written list numbers
   file_is = written list numbers n e
 
@@ -71,8 +69,8 @@ module _ (list : List ℤ) (numbers : List ℕ) (n : ℕ) (e : first_met (write_
   file = encoded list numbers
 
   -- the file refuses nothing, and the frame is there
-  rows_left : first_met (frame_band_conditions file w (length s) f r) ≡ first_met (rows_conditions w (length s) f r)
-  rows_left = append_clear (rows_conditions w (length s) f r) (file_conditions file) file_is.accepted
+  rows_left : first_met (frame_band_conditions file w (length s) b) ≡ first_met (rows_conditions w (length s) b)
+  rows_left = append_clear (rows_conditions w (length s) b) (file_conditions file) file_is.accepted
 
   there : part_of (table file) k ≡ Some (frame_part numbers k)
   there = ap (λ (t : List ℕ). part_of t k) file_is.same-table ∙ rw (lt-ltb k (length numbers) l)
@@ -80,7 +78,7 @@ module _ (list : List ℤ) (numbers : List ℕ) (n : ℕ) (e : first_met (write_
   same : records_in file (frame_part numbers k) ≡ frame_records list numbers k
   same = file_is.found-records k l
 
-  pub drawn_as_written : DrawnAsWritten list numbers k w s f r
+  pub drawn_as_written : DrawnAsWritten list numbers k w s b
   drawn_as_written =
       record {
         answers = rw (rows_left, there, same);

@@ -14,8 +14,10 @@ use borrow.Author.Tests.{ltb-true}
 use Rattle.counting.proofs.Any.{any_none}
 use Rattle.refusal.specs.Refusal.{given, first_met}
 use Rattle.refusal.proofs.Handing.{given_by}
-use Rattle.raster.specs.declared.drawn.Marks.{Marks}
 use Rattle.raster.specs.declared.window.Window.{Window}
+use Rattle.drawing.specs.Band.{band_counts, band_raster}
+use Rattle.drawing.specs.declared.band.Band.{Band}
+use Rattle.drawing.specs.declared.counts.Counts.{Counts}
 use Rattle.reel.specs.Reel.{records_before, coordinates, coordinates_out, table, records}
 use Rattle.reel.specs.Reading.{file_conditions, frame_part, part_of, find_answer, records_in}
 use Rattle.reel.specs.RoundTrip.{frame_records}
@@ -23,7 +25,7 @@ use Rattle.reel.specs.declared.find.FramePart.{FramePart}
 use Rattle.reel.proofs.Records.{in_list}
 use Rattle.reel.proofs.Conditions.{Readable, readable}
 use Rattle.reel.proofs.Decoded.{frame_before, frame_numbers_lem}
-use Rattle.reel_draw.specs.Records.{records_marks, records_raster}
+use Rattle.reel_draw.specs.Records.{records_figure}
 
 -- ---- the part that is lent
 
@@ -40,11 +42,11 @@ module _ (file : List ℕ) (part : FramePart) where
   lent_most = simp (length-take, length-drop) (omega arith)
 
   -- what is drawn of it is drawn of the frame's records
-  pub lent_drawn : (w : Window) (f r : ℕ) (s : List ℕ) (m : Marks) (t : List ℕ) → m ≡ records_marks (coordinates lent) w s f r → t ≡ records_raster (coordinates lent) w f r s
-      → (m ≡ records_marks (records_in file part) w s f r) × (t ≡ records_raster (records_in file part) w f r s)
-  lent_drawn w f r s m t p q = (
-    p ∙ ap (λ (l : List ℤ). records_marks l w s f r) lent_records,
-    q ∙ ap (λ (l : List ℤ). records_raster l w f r s) lent_records,
+  pub lent_drawn : (w : Window) (b : Band) (s : List ℕ) (m : Counts) (t : List ℕ) → m ≡ band_counts (records_figure (coordinates lent)) w s b → t ≡ band_raster (records_figure (coordinates lent)) w b s
+      → (m ≡ band_counts (records_figure (records_in file part)) w s b) × (t ≡ band_raster (records_figure (records_in file part)) w b s)
+  lent_drawn w b s m t p q = (
+    p ∙ ap (λ (l : List ℤ). band_counts (records_figure l) w s b) lent_records,
+    q ∙ ap (λ (l : List ℤ). band_raster (records_figure l) w b s) lent_records,
   )
 
 -- ---- a part that the reader finds

@@ -3,70 +3,61 @@ use Prim.Native.Nat.{ℕ, zero, suc, ◌≤◌, ◌<◌}
 use mathlib.Core.Bool.{Bool, true, cond}
 use mathlib.Core.List.{List, ◌++◌}
 use mathlib.Core.Path.{◌≡◌, refl, sym, ap, ◌∙◌}
-use mathlib.Core.Logic.{◌⊎◌, inl, inr, ⊎_elim}
 use native.Mathlib.Omega.{arith}
 use Rattle.std.specs.Prelude.{Result, Ok, Err, IsOk, IsErrAnd}
 use Rattle.std.proofs.lemmas.Result.{err_from_is_err_and}
-use Rattle.refusal.specs.Refusal.{Answer, given, refused, refused_at, turned_away, answer, unless_refused, number_of, number, place, is_refused, answered, first_met}
-use Rattle.refusal.specs.declared.Refusal.{Refusal}
-use Rattle.refusal.specs.declared.Refusal.TheVariants.{Ends, Size, Place, RasterLength, ListLength, Rows, RunCount, Run, Input, File, Table, Record, NotFinite, PenRange}
+use Rattle.refusal.specs.Refusal.{Answer, given, refused_at, turned_away, answer, unless_refused, number_of, number, place, is_refused, answered, first_met}
+use Rattle.refusal.specs.declared.refusal.Refusal.{Refusal}
+use Rattle.refusal.specs.declared.refusal.Refusal.TheVariants.{Ends, WindowSize, WindowPlace, RasterLength, ListLength, Rows, RunCount, Run, Input, File, Table, Record, NotFinite, PenRange}
 use Rattle.refusal.proofs.Conditions.{append_met}
 
--- a refusal's number has at most two digits, and its answer, whatever the values would be, is that number, with the place where
--- it has one
+-- a refusal's number has at most two digits, and its answer, whatever the values would be, is that number and its place
 pub record Turned (r : Refusal) : Type 1 where
   pub some : 1 ≤ number r
   pub few : number r < 100
-  pub form : ((place r ≡ 0) × ((A : Type 0) → turned_away {A = A} r ≡ refused (number r)))
-      ⊎ ((A : Type 0) → turned_away {A = A} r ≡ refused_at (number r) (place r))
+  pub form : (A : Type 0) → turned_away {A = A} r ≡ refused_at (number r) (place r)
 
 pub turned : (r : Refusal) → Turned r
-turned Ends = record { some = omega arith; few = omega arith; form = inl (refl, λ A. refl) }
-turned Size = record { some = omega arith; few = omega arith; form = inl (refl, λ A. refl) }
-turned Place = record { some = omega arith; few = omega arith; form = inl (refl, λ A. refl) }
-turned RasterLength = record { some = omega arith; few = omega arith; form = inl (refl, λ A. refl) }
-turned ListLength = record { some = omega arith; few = omega arith; form = inl (refl, λ A. refl) }
-turned Rows = record { some = omega arith; few = omega arith; form = inl (refl, λ A. refl) }
-turned RunCount = record { some = omega arith; few = omega arith; form = inl (refl, λ A. refl) }
-turned (Run at) = record { some = omega arith; few = omega arith; form = inr (λ A. refl) }
-turned Input = record { some = omega arith; few = omega arith; form = inl (refl, λ A. refl) }
-turned File = record { some = omega arith; few = omega arith; form = inl (refl, λ A. refl) }
-turned Table = record { some = omega arith; few = omega arith; form = inl (refl, λ A. refl) }
-turned Record = record { some = omega arith; few = omega arith; form = inl (refl, λ A. refl) }
-turned NotFinite = record { some = omega arith; few = omega arith; form = inl (refl, λ A. refl) }
-turned PenRange = record { some = omega arith; few = omega arith; form = inl (refl, λ A. refl) }
+turned Ends = record { some = omega arith; few = omega arith; form = λ A. refl }
+turned WindowSize = record { some = omega arith; few = omega arith; form = λ A. refl }
+turned WindowPlace = record { some = omega arith; few = omega arith; form = λ A. refl }
+turned RasterLength = record { some = omega arith; few = omega arith; form = λ A. refl }
+turned ListLength = record { some = omega arith; few = omega arith; form = λ A. refl }
+turned Rows = record { some = omega arith; few = omega arith; form = λ A. refl }
+turned RunCount = record { some = omega arith; few = omega arith; form = λ A. refl }
+turned (Run at) = record { some = omega arith; few = omega arith; form = λ A. refl }
+turned Input = record { some = omega arith; few = omega arith; form = λ A. refl }
+turned File = record { some = omega arith; few = omega arith; form = λ A. refl }
+turned Table = record { some = omega arith; few = omega arith; form = λ A. refl }
+turned Record = record { some = omega arith; few = omega arith; form = λ A. refl }
+turned NotFinite = record { some = omega arith; few = omega arith; form = λ A. refl }
+turned PenRange = record { some = omega arith; few = omega arith; form = λ A. refl }
 
 -- the same answer with another value in the place of a given one
 instead : {A B : Type 0} → B → Answer A → Answer B
 instead b (given a) = given b
-instead b (refused n) = refused n
 instead b (refused_at n place) = refused_at n place
 
 module _ {B : Type 0} (b : B) where
   instead_turned : (A : Type 0) (r : Refusal) → instead b (turned_away {A = A} r) ≡ turned_away r
   unfolding instead
-  instead_turned A r =
-      ⊎_elim
-      (λ x. ap (instead b) (x.1 A) ∙ sym (x.1 B))
-      (λ x. ap (instead b) (x A) ∙ sym (x B))
-      (turned r).form
+  instead_turned A r = ap (instead b) ((turned r).form A) ∙ sym ((turned r).form B)
 
   instead_answer : {A : Type 0} (n : ℕ) (a : A) → instead b (answer n a) ≡ answer n b
   unfolding instead
   instead_answer zero a = refl
   instead_answer (suc n) a = refl
 
--- so what is said of both forms is said of every refusal's answer
-pub turned_by : {A B : Type 0} (f : Answer A → B) (b : B) (r : Refusal) → (place r ≡ 0 → f (refused (number r)) ≡ b)
-    → f (refused_at (number r) (place r)) ≡ b → f (turned_away r) ≡ b
-turned_by {A} f b r p q = ⊎_elim (λ x. ap f (x.1 A) ∙ p x.0) (λ x. ap f (x A) ∙ q) (turned r).form
+-- so what is said of this form is said of every refusal's answer
+pub turned_by : {A B : Type 0} (f : Answer A → B) (b : B) (r : Refusal) → f (refused_at (number r) (place r)) ≡ b → f (turned_away r) ≡ b
+turned_by {A} f b r q = ap f ((turned r).form A) ∙ q
 
 module _ (A : Type 0) (r : Refusal) where
   pub number_is : number_of (turned_away {A = A} r) ≡ number r
-  number_is = turned_by number_of (number r) r (λ _. refl) refl
+  number_is = turned_by number_of (number r) r refl
 
   turned_refused : is_refused (turned_away {A = A} r) ≡ true
-  turned_refused = turned_by is_refused true r (λ _. refl) refl
+  turned_refused = turned_by is_refused true r refl
 
 -- so it is never a given one
 not_given : (r : Refusal) → turned_away {A = Unit} r ≡ given tt → ⊥
@@ -119,7 +110,6 @@ module _ {A : Type 0} (x : Result A Refusal) (r : Refusal) (is : IsErrAnd x (λ 
 module _ {A : Type 0} where
   value : A → Answer A → A
   value other (given a) = a
-  value other (refused n) = other
   value other (refused_at n place) = other
 
   pub number-answer : (n : ℕ) (b : A) → number_of (answer n b) ≡ n

@@ -2,14 +2,12 @@
 use Rattle.std.proofs.Common.{◌≡◌, ℕ, suc, zero, ◌+◌, ◌*◌, ◌/◌, ◌<◌, Bool, List, [], ℤ, pos, refl, sym, ap, ◌∙◌, arith, length, take, drop, get_or}
 use Rattle.std.specs.Simd.{first_chunks}
 use Rattle.std.proofs.lemmas.List.{get_or-take, get_or-drop}
-use mathlib.Core.Path.{fun_ext}
 use Rattle.counting.specs.Count.{first}
 use Rattle.counting.proofs.Any.{any_cong}
-use Rattle.counting.proofs.Summed.{sum_cong}
-use Rattle.coordinate.specs.declared.Axis.{Axis}
-use Rattle.raster.specs.declared.window.Window.{Window}
-use Rattle.runs.specs.Run.{Run, in_run, run_count}
-use Rattle.runs.specs.Painting.{run_at, first_bad, in_runs, paint_count, paint_marks}
+use Rattle.coordinate.specs.declared.axis.Axis.{Axis}
+use Rattle.drawing.proofs.Several.{several_cong}
+use Rattle.runs.specs.Run.{run_figure}
+use Rattle.runs.specs.Painting.{run_at, first_bad, runs_figure}
 use Rattle.runs.specs.Parts.{stored_at, run_of, bad_run}
 use Rattle.runs.proofs.Painting.{stored_bad}
 
@@ -56,13 +54,5 @@ module _ (list part : List ℤ) (n : ℕ) (cut : part ≡ take (3 * n) list) (lo
   unfolding first_bad
   counted_bad = rw long (first_cong n _ _ (λ k l. stored_bad part k ∙ ap bad_run (stored_same k l) ∙ sym (stored_bad list k)))
 
-  pub counted_runs : (axis : Axis) → in_runs axis part (length part / 3) ≡ in_runs axis list n
-  unfolding in_runs
-  counted_runs axis = rw long (fun_ext (λ x. fun_ext (λ y. any_cong n _ _ (λ k l. ap (λ (r : Run). in_run axis r x y) (run_same k l)))))
-
-  counted_sum : (axis : Axis) (w : Window) → paint_count axis part (length part / 3) w ≡ paint_count axis list n w
-  unfolding paint_count
-  counted_sum axis w = rw long (sum_cong n _ _ (λ k l. ap (λ (r : Run). run_count axis r w) (run_same k l)))
-
-  pub counted_marks : (axis : Axis) (w : Window) (s : List ℕ) → paint_marks axis (length part / 3) part w s ≡ paint_marks axis n list w s
-  counted_marks axis w s = rw (counted_sum axis w, counted_runs axis) refl
+  pub counted_runs : (axis : Axis) → runs_figure axis part (length part / 3) ≡ runs_figure axis list n
+  counted_runs axis = rw long (several_cong n _ _ (λ k l. ap (run_figure axis) (run_same k l)))

@@ -1,6 +1,8 @@
 pub mod Bad
-pub mod Cut
-pub mod Column
+pub mod CutRuns
+pub mod ColumnBits
 pub mod Painting
 pub mod Counted
 pub mod Outcome
+pub mod FreshPixels
+pub mod Paints

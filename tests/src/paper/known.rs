@@ -1,5 +1,5 @@
 //! Document 01, 'Known lines', with E as document 02 has it, and the refusals' order, by the second implementation alone.
-//! Expected numbers of new pixels (document 02, 'How much was new') are counted by hand on those lines' pixels.
+//! Expected numbers of fresh pixels (document 02, 'How much was new') are counted by hand on those lines' pixels.
 use crate::draw::{draw, draw_band, Band};
 use crate::frame::{ends, pixel, window};
 use crate::line::{Axis, Line};

@@ -1,6 +1,6 @@
 //! Lists of band calls on one raster, in random order with refused and repeated ones among them: compared after every call,
 //! and at the end with the line's pixels in the rows of all accepted bands; where those are all rows, also with drawing the
-//! whole line and with painting. The new pixels of all calls are those that the raster has more at the end.
+//! whole line and with painting. The fresh pixels of all calls are those that the raster has more at the end.
 use crate::added::added;
 use crate::comparison::{Comparison, Drawer, Stored};
 use crate::make::{ends, needed, numbers, pixel_of, raster, window_at};
@@ -129,7 +129,7 @@ fn one_list(comparison: &mut Comparison, random: &mut Random) {
     comparison.same("a list of bands", line, window, &bands.raster, &expected);
     let added = added(window, &job.start, &bands.raster);
     let fresh = Some(bands.counts.fresh);
-    comparison.same("new pixels by bands", line, window, &fresh, &added);
+    comparison.same("fresh pixels by bands", line, window, &fresh, &added);
     let rows = 0..i64::from(window.height);
     let times: Vec<usize> = rows.map(|row| accepted(&calls, window, row)).collect();
     if times.contains(&0) {

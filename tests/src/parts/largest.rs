@@ -9,7 +9,7 @@ use paper::line::Line;
 
 const SIDE: u32 = 8192;
 
-/// Lines over the whole range: diagonal both ways, flat, steep, and with S the half of L, the short coordinate rising along x
+/// Lines over the whole range: diagonal both ways, level, upright, and with S the half of L, the short coordinate rising along x
 /// and falling along both axes.
 const ENDS: [Ends; 7] = [
     ends(-16384, -16384, 16383, 16383),
@@ -47,7 +47,7 @@ fn look(comparison: &mut Comparison, window: Window) {
     comparison.draw(Drawer::Single, &Line::new(ENDS[0]), window, &start[..last]);
 }
 
-/// A sum that does not fit in 32 bits: the same run of 8192 pixels, 2^19 + 1 times, in a window of one row. Its pixels are new
+/// A sum that does not fit in 32 bits: the same run of 8192 pixels, 2^19 + 1 times, in a window of one row. Its pixels are fresh
 /// once at most.
 fn largest_sum(comparison: &mut Comparison) {
     let runs = (1 << 19) + 1;

@@ -11,8 +11,8 @@ use Rattle.line.specs.Distance.{distance}
 use Rattle.line.specs.Trace.{away}
 use Rattle.line.specs.declared.trace.Line.{Line}
 use Rattle.line.proofs.Pixels.{step_column, step_row, traced_m}
-use Rattle.line_draw.specs.Walk.{seen, step_bit, step_rest}
-use Rattle.line_draw.proofs.Within.{lawful, Within, step_x, step_y, step_within, step_bit_lem, traced_rest}
+use Rattle.line_draw.specs.Walk.{seen, step_bit, step_decision}
+use Rattle.line_draw.proofs.Within.{lawful, Within, step_x, step_y, step_within, step_bit_lem, traced_decision}
 use Rattle.line_draw.proofs.Stepping.{bounded_enters}
 use Rattle.line_draw.proofs.walker.spot_of.Goals.{After-biased-2, After-short_at-short, Start}
 use Rattle.line_draw.proofs.walker.spot_of.Goals as goal
@@ -40,8 +40,8 @@ module _ (c : After-short_at-short) where
   short_is : c.short_at-short.result.distance ≡ distance c.args.line.ends c.args.i
   short_is = c.short_at-short.ensures.0 ∙ traced_m c.args.line c.args.i
 
-  rest_is : c.short_at-short.result.rest ≡ step_rest c.args.line.ends c.args.i
-  rest_is = c.short_at-short.ensures.1 ∙ traced_rest c.args.line c.args.i
+  decision_is : c.short_at-short.result.decision ≡ step_decision c.args.line.ends c.args.i
+  decision_is = c.short_at-short.ensures.1 ∙ traced_decision c.args.line c.args.i
 
 pub at-x-requires : goal.at-x-requires
 at-x-requires c =
@@ -95,10 +95,10 @@ pub returns : goal.returns
 returns c =
     let s = (goal.at.returns c).Start in
     let made = (goal.at.returns c).After-biased-2 in
-    let rest = rest_is (goal.at.returns c).After-short_at-short in
+    let decision = decision_is (goal.at.returns c).After-short_at-short in
     record {
       bit_is = bit_at s.args.line s.args.grid.window s.args.i s.args.grid.within (on_line_lem s) s.requires.1 c.bit_of-bit.ensures
           (ap₂ ◌-◌ (x made) (left made)) (ap₂ ◌-◌ (y made) (top made));
-      rest_is = rest;
-      rest_bounded = bounded_enters s.args.line.ends s.args.i _ rest;
+      decision_is = decision;
+      decision_bounded = bounded_enters s.args.line.ends s.args.i _ decision;
     }

@@ -1,4 +1,4 @@
--- The pixel's bit is set, and it is new exactly if the pixel was unmarked.
+-- The pixel's bit is set, and it is fresh exactly if the pixel was unmarked.
 use Prim.Native.Nat.{ℕ}
 use mathlib.Core.Path.{refl, ap, ◌∙◌}
 use lib.Dec.{eqb}

@@ -1,4 +1,4 @@
--- A byte or'd in sets its bits, and its count grows by the new ones.
+-- A byte or'd in sets its bits, and its count grows by the fresh ones.
 use Rattle.raster.proofs.Over.{Bytes}
 use Rattle.raster.proofs.BitLaws.{bits_or}
 use Rattle.raster.proofs.Growing.{bits_or_grow, changed_most}

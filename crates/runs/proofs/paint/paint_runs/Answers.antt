@@ -1,5 +1,5 @@
 -- Each return is a case of the outcome: the frame's refusal, the count's, a bad run's, or the painting.
-use mathlib.Core.Path.{◌≡◌, sym, ap, ◌∙◌}
+use mathlib.Core.Path.{◌≡◌, refl, sym, ap, ◌∙◌}
 use mathlib.Core.List.{List}
 use Prim.Native.Nat.{ℕ, ◌*◌, ◌/◌, ◌≤◌}
 use native.Mathlib.Omega.{arith}
@@ -9,14 +9,15 @@ use Rattle.std.proofs.Common.{take}
 use Rattle.std.specs.Prelude.{Option}
 use Rattle.refusal.specs.Refusal.{given, first_met}
 use Rattle.refusal.proofs.Handing.{passed, err_is}
-use Rattle.raster.specs.Raster.{plus}
 use Rattle.raster.specs.Window.{frame_conditions}
-use Rattle.raster.specs.declared.drawn.Marks.{Marks}
 use Rattle.raster.proofs.Frames.{window_in}
 use Rattle.raster.proofs.Grids.{length_in}
-use Rattle.runs.specs.Painting.{first_bad, in_runs, paint_marks}
+use Rattle.drawing.specs.Figure.{Figure}
+use Rattle.drawing.specs.Drawing.{draw_counts, draw_raster}
+use Rattle.drawing.specs.declared.counts.Counts.{Counts}
+use Rattle.runs.specs.Painting.{first_bad, runs_figure}
 use Rattle.runs.specs.Parts.{bad_check}
-use Rattle.runs.proofs.Counted.{counted_bad, counted_runs, counted_marks}
+use Rattle.runs.proofs.Counted.{counted_bad, counted_runs}
 use Rattle.runs.proofs.Outcome.{none_bad, frame_refused, count_refused, run_refused, all_passed}
 use Rattle.runs.proofs.paint.paint_runs.Goals.{In_ok-check_frame, In-Some, Start}
 use Rattle.runs.proofs.paint.paint_runs.Goals as goal
@@ -26,11 +27,11 @@ module _ (s : Start) where
   abbrev bad : Option ℕ
   bad = first_bad s.args.list.now s.args.count
 
-  abbrev total : Marks
-  total = paint_marks s.args.axis s.args.count s.args.list.now s.args.window s.args.raster.now
+  abbrev total : Counts
+  total = draw_counts (runs_figure s.args.axis s.args.list.now s.args.count) s.args.window s.args.raster.now
 
   abbrev work : List ℕ
-  work = plus s.args.window s.args.raster.now (in_runs s.args.axis s.args.list.now s.args.count)
+  work = draw_raster (runs_figure s.args.axis s.args.list.now s.args.count) s.args.window s.args.raster.now
 
 pub returns-in_err-check_frame : goal.returns-in_err-check_frame
 returns-in_err-check_frame c =
@@ -77,26 +78,27 @@ returns-in_err-check_runs c =
     (ap bad_check (sym (same_bad some)) ∙ sym c.in_err-check_runs.ensures) in
     record { answered = err_is _ _ c.from_residual-in_err-check_runs.ensures.1 ∙ facts.0; raster_after = facts.1 }
 
-pub invariant_of-paint_all : goal.invariant_of-paint_all
-invariant_of-paint_all c = record { within = window_in _ _ (within (goal.at.invariant_of-paint_all c).In_ok-check_frame) }
+pub invariant_of-runs : goal.invariant_of-runs
+invariant_of-runs c = record {
+  none_bad = none_bad _ (sym c.in_ok-check_runs.ensures);
+  few = let e = long (goal.at.invariant_of-runs c).In-Some in omega (arith, c.ranges.count.fits);
+}
 
-pub paint_all-requires : goal.paint_all-requires
-paint_all-requires c = (
-  let e = long (goal.at.paint_all-requires c).In-Some in omega (arith, c.ranges.count.fits),
-  none_bad _ (sym c.in_ok-check_runs.ensures),
-  length_in _ _ (within (goal.at.paint_all-requires c).In_ok-check_frame),
-)
+pub invariant_of-mark : goal.invariant_of-mark
+invariant_of-mark c = record { within = window_in _ _ (within (goal.at.invariant_of-mark c).In_ok-check_frame) }
+
+pub mark-requires : goal.mark-requires
+unfolding first_met
+mark-requires c = (refl, length_in _ _ (within (goal.at.mark-requires c).In_ok-check_frame))
 
 pub returns : goal.returns
 returns c =
     let a = c.args in
     let some = (goal.at.returns c).In-Some in
-    let list = c.in-Some.counted.now in
     let none = sym (same_bad some) ∙ none_bad _ (sym c.in_ok-check_runs.ensures) in
     let all = all_passed a.window (length a.raster.now) a.list.now a.count (within (goal.at.returns c).In_ok-check_frame) (fits some) in
+    let same = counted_runs a.list.now c.in-Some.counted.now a.count (cut some) (long some) a.axis in
     record {
-      answered = rw (all, none) (ap given (c.paint_all.ensures.value
-          ∙ counted_marks a.list.now list a.count (cut some) (long some) a.axis a.window a.raster.now));
-      raster_after = rw (all, none) (c.paint_all.ensures.raster_after
-          ∙ ap (plus a.window a.raster.now) (counted_runs a.list.now list a.count (cut some) (long some) a.axis));
+      answered = rw (all, none) (ap given (c.mark.ensures.value ∙ ap (λ (f : Figure). draw_counts f a.window a.raster.now) same));
+      raster_after = rw (all, none) (c.mark.ensures.raster_after ∙ ap (λ (f : Figure). draw_raster f a.window a.raster.now) same);
     }

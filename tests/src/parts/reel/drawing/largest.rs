@@ -11,7 +11,7 @@ const SIDE: u32 = 8192;
 const MOST_RECORDS: usize = 8190;
 const LONG: u32 = 12;
 
-/// Lines over the whole range: diagonal both ways, flat, steep, and with S the half of L, the short coordinate rising along x
+/// Lines over the whole range: diagonal both ways, level, upright, and with S the half of L, the short coordinate rising along x
 /// and falling along both axes.
 const RECORDS: [[i16; 4]; 7] = [
     [-16384, -16384, 16383, 16383],
@@ -43,7 +43,7 @@ fn long_lines(comparison: &mut Comparison, random: &mut Random) {
     }
 }
 
-/// As many lines as a file can have, all along one row of the widest window: every pixel is counted each time and new once.
+/// As many lines as a file can have, all along one row of the widest window: every pixel is counted each time and fresh once.
 fn most_lines(comparison: &mut Comparison, random: &mut Random) {
     let records = vec![[0, 5, 8191, 5]; MOST_RECORDS];
     let file = &Fields::new(records, vec![MOST_RECORDS as u32]).bytes();

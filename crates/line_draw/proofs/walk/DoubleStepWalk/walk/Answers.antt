@@ -4,7 +4,7 @@ use native.Mathlib.Nat.{zero-add}
 use Rattle.raster.proofs.Frames.{raster_max}
 use Rattle.raster.proofs.Grids.{grid_frame}
 use Rattle.raster.proofs.Plus.{plus-length}
-use Rattle.raster.proofs.Fresh.{new_most}
+use Rattle.raster.proofs.Fresh.{fresh_most}
 use Rattle.line_draw.proofs.Stepping.{shown_part}
 use Rattle.line_draw.proofs.Marking.{Of, Marked, Walked, itself, marked-first, marked-length, marked_end, of_on, own_shown, own_in, own_on, own_walked, own_window}
 use Rattle.line_draw.proofs.Pairing.{marked-rest}
@@ -61,7 +61,7 @@ module _ (c : After-walk_pairs-2) where
 pub overflow_add-result : goal.overflow_add-result
 overflow_add-result c =
     let both = all (goal.at.overflow_add-result c).After-walk_pairs-2 in
-    let most = new_most _ _ _ (ap length both.0 ∙ plus-length _ _ _) (raster_max _ _ (grid_frame c.args.start.grid _ c.requires.0)) both.1 in
+    let most = fresh_most _ _ _ (ap length both.0 ∙ plus-length _ _ _) (raster_max _ _ (grid_frame c.args.start.grid _ c.requires.0)) both.1 in
     record { fits = omega arith }
 
 pub returns : goal.returns

@@ -9,5 +9,5 @@ invariant_of-self c =
     let two = c.two-two.ensures in
     record {
       walking = walks_on a (a.step + 2) (a.step + 3) c.requires (omega arith) (omega arith)
-          (record { bit_is = two.bit_is; rest_is = two.rest_is; rest_bounded = two.rest_bounded });
+          (record { bit_is = two.bit_is; decision_is = two.decision_is; decision_bounded = two.decision_bounded });
     }

@@ -13,8 +13,8 @@ pub overflow_sub-result : goal.overflow_sub-result
 overflow_sub-result c =
     let both = flat_diagonal c.args.self c.requires.shown c.requires.one_diagonal.0 (omega arith) in omega (arith, both.middle)
 
-pub returns-then-rest-turn : goal.returns-then-rest-turn
-returns-then-rest-turn c =
+pub returns-then-decision-turn : goal.returns-then-decision-turn
+returns-then-decision-turn c =
     let both = flat_diagonal c.args.self c.requires.shown c.requires.one_diagonal.0 (omega arith) in
     pair_on c.args.self c.requires.shown 0 1 _ both (omega (arith, both.middle)) (omega (arith, both.bit)) (omega arith) (omega arith)
 

@@ -6,8 +6,8 @@ use Rattle.line_draw.proofs.walker.Walker.next.Goals as goal
 pub overflow_sub-result : goal.overflow_sub-result
 overflow_sub-result c = let bit = diagonal_bit c.args.self c.requires (omega arith) in omega arith
 
-pub returns-then-turn-rest : goal.returns-then-turn-rest
-returns-then-turn-rest c =
+pub returns-then-turn-decision : goal.returns-then-turn-decision
+returns-then-turn-decision c =
     let a = c.args.self in
     let bit = diagonal_bit a c.requires (omega arith) in
     diagonal_on a c.requires (omega arith) _ (omega arith) (omega arith)

@@ -4,4 +4,4 @@ use Rattle.raster.proofs.Frames.{sized}
 use Rattle.raster.proofs.window.Window.row_bits.Goals as goal
 
 pub overflow_mul-result : goal.overflow_mul-result
-overflow_mul-result c = record { fits = omega (arith, c.row_size.ensures, (sized c.args.self c.requires).width_max) }
+overflow_mul-result c = record { fits = omega (arith, c.row_bytes.ensures, (sized c.args.self c.requires).width_max) }

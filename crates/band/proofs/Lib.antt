@@ -1,9 +1,0 @@
-pub mod Limits
-pub mod BandRows
-pub mod CallLaws
-pub mod EqualRaster
-pub mod BothLaws
-pub mod NewPixels
-pub mod Exchanged
-pub mod Nudge
-pub mod Pairs

@@ -1,0 +1,3 @@
+pub mod BothWays
+pub mod EqualRaster
+pub mod Exchanged

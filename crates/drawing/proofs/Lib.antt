@@ -1,0 +1,15 @@
+pub mod Once
+pub mod Parts
+pub mod Limits
+pub mod Conditions
+pub mod BandRows
+pub mod CallLaws
+pub mod RowByRow
+pub mod ByBands
+pub mod FreshPixels
+pub mod Alike
+pub mod Same
+pub mod Several
+pub mod Pairs
+pub mod Stacked
+pub mod Known

@@ -1,0 +1,9 @@
+pub mod Counts
+pub mod Figure
+pub mod Drawing
+pub mod Band
+pub mod Calls
+pub mod ByBands
+pub mod Stacked
+pub mod Known
+pub mod FreshPixels
