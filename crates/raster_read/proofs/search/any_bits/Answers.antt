@@ -1,7 +1,7 @@
 -- An or is 0 only where both sides are.
 use native.Mathlib.Omega.{arith}
-use Rattle.raster.proofs.Passing.{zeros_on}
-use Rattle.raster.proofs.search.any_bits.Goals as goal
+use Rattle.raster_read.proofs.Passing.{zeros_on}
+use Rattle.raster_read.proofs.search.any_bits.Goals as goal
 
 pub loop-byte-preserved : goal.loop-byte-preserved
 loop-byte-preserved c e i l m =

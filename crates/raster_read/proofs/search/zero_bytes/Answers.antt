@@ -1,8 +1,8 @@
 -- The part that is or'd begins at `a`.
 use Prim.Native.Nat.{◌+◌, ◌-◌}
 use native.Mathlib.Omega.{arith}
-use Rattle.raster.proofs.Passing.{zeros_there}
-use Rattle.raster.proofs.search.zero_bytes.Goals as goal
+use Rattle.raster_read.proofs.Passing.{zeros_there}
+use Rattle.raster_read.proofs.search.zero_bytes.Goals as goal
 
 pub returns-then-any_bits-eq0 : goal.returns-then-any_bits-eq0
 returns-then-any_bits-eq0 c =

@@ -8,9 +8,9 @@ use Rattle.refusal.proofs.Handing.{passed}
 use Rattle.raster.specs.Raster.{row_bytes}
 use Rattle.raster.specs.Window.{frame_conditions}
 use Rattle.raster.proofs.Frames.{Frame, frame, window_in, starts_apart, end_within}
-use Rattle.raster.proofs.Rows.{view_refused, view_out, view_given}
-use Rattle.raster.proofs.row.row_view.Goals.{In-Ok}
-use Rattle.raster.proofs.row.row_view.Goals as goal
+use Rattle.raster_read.proofs.Rows.{view_refused, view_out, view_given}
+use Rattle.raster_read.proofs.row.row_view.Goals.{In-Ok}
+use Rattle.raster_read.proofs.row.row_view.Goals as goal
 
 pub returns-in_default : goal.returns-in_default
 returns-in_default c = view_refused c.args.window c.args.raster.now c.args.row c.in_default.field-0 c.in_default.ensures

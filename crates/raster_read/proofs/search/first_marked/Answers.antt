@@ -5,12 +5,12 @@ use lib.ListN.{length}
 use Rattle.std.specs.Prelude.{Some}
 use Rattle.refusal.specs.Refusal.{given}
 use Rattle.refusal.proofs.Handing.{passed}
-use Rattle.raster.specs.Search.{first_number, cell_of}
+use Rattle.raster_read.specs.Search.{first_number, cell_of}
 use Rattle.raster.proofs.Frames.{Frame, frame, window_in}
 use Rattle.raster.proofs.Grids.{length_in}
-use Rattle.raster.proofs.Placing.{cell_small, column_fits, row_fits, found_is, none_is}
-use Rattle.raster.proofs.search.first_marked.Goals.{In-Some}
-use Rattle.raster.proofs.search.first_marked.Goals as goal
+use Rattle.raster_read.proofs.Cells.{cell_small, column_fits, row_fits, found_is, none_is}
+use Rattle.raster_read.proofs.search.first_marked.Goals.{In-Some}
+use Rattle.raster_read.proofs.search.first_marked.Goals as goal
 
 pub invariant_of-first_cell : goal.invariant_of-first_cell
 invariant_of-first_cell c = record { within = window_in _ _ (passed _ _ c.in_ok-check_frame.ensures) }

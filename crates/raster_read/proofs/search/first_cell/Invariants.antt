@@ -3,9 +3,9 @@ use Prim.Native.Nat.{ℕ, ◌+◌, ◌-◌, ◌*◌, ◌≤◌}
 use mathlib.Core.List.{List}
 use mathlib.Core.Path.{◌≡◌}
 use Rattle.std.specs.Prelude.{Option, None}
-use Rattle.raster.specs.declared.search.Cell.{Cell}
-use Rattle.raster.proofs.Passing.{Passed, RowsPassed}
-use Rattle.raster.proofs.search.first_cell.Given as goal
+use Rattle.raster_read.specs.declared.search.Cell.{Cell}
+use Rattle.raster_read.proofs.Passing.{Passed, RowsPassed}
+use Rattle.raster_read.proofs.search.first_cell.Given as goal
 
 pub record RowsDone (raster : List ℕ) (bytes width : ℕ) (cell : Option Cell) (row : ℕ) : Type 0 where
   pub nothing : cell ≡ None

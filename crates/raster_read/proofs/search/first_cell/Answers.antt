@@ -3,10 +3,10 @@ use Prim.Native.Nat.{ℕ, ◌*◌}
 use mathlib.Core.Path.{◌≡◌, sym, ap, ◌∙◌}
 use native.Mathlib.Omega.{arith}
 use Rattle.raster.proofs.Grids.{grid_size}
-use Rattle.raster.proofs.Passing.{bytes_on, bit_on, pixel_is, bit_set, bit_clear}
-use Rattle.raster.proofs.Searching.{none_marked, first_is}
-use Rattle.raster.proofs.search.first_cell.Goals.{then-column-width+else-b-bit-eq1, else-column-width, After-row_start-start}
-use Rattle.raster.proofs.search.first_cell.Goals as goal
+use Rattle.raster_read.proofs.Passing.{bytes_on, bit_on, pixel_is, bit_set, bit_clear}
+use Rattle.raster_read.proofs.Searching.{none_marked, first_is}
+use Rattle.raster_read.proofs.search.first_cell.Goals.{then-column-width+else-b-bit-eq1, else-column-width, After-row_start-start}
+use Rattle.raster_read.proofs.search.first_cell.Goals as goal
 
 -- the row that is looked at begins at its number times the bytes of a row
 start_is : (c : After-row_start-start) → c.row_start-start.result ≡ c.rows.row * c.row_bytes-bytes.result
