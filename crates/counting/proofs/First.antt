@@ -8,7 +8,7 @@ use native.Mathlib.Omega.{arith}
 use native.Mathlib.Nat.{eq-or-lt_of_le, le_of_suc-le-suc}
 use Rattle.counting.specs.Count.{any, first}
 use Rattle.counting.proofs.Boolean.{clash}
-use Rattle.counting.proofs.Any.{any_make, any_none}
+use Rattle.counting.proofs.Any.{any_make, any_none, none_at}
 
 pub first_none : (n : ℕ) (f : ℕ → Bool) → ((i : ℕ) → i < n → f i ≡ false) → first n f ≡ None
 unfolding first
@@ -45,3 +45,15 @@ none_any (suc n) f e = go (any n f) (f n) refl (none_any n f) e
     go true u q ih r = absurd (clash (any n f) (ih r) q)
     go false true q ih r = absurd (let z : ◌≡◌ {A = ℕ} 0 1 = cc in omega arith)
     go false false q ih r = refl
+
+-- it holds there, and at no number before
+pub first_holds : (n : ℕ) (f : ℕ → Bool) (k : ℕ) → first n f ≡ Some k → (f k ≡ true) × ((i : ℕ) → i < k → f i ≡ false)
+unfolding first
+first_holds zero f k e = absurd (let z : ◌≡◌ {A = ℕ} 0 1 = cc in omega arith)
+first_holds (suc n) f k e = go (any n f) (f n) refl refl (first_holds n f k) e
+  where
+    go : (t u : Bool) → any n f ≡ t → f n ≡ u → (first n f ≡ Some k → (f k ≡ true) × ((i : ℕ) → i < k → f i ≡ false))
+        → cond t (first n f) (cond u (Some n) None) ≡ Some k → (f k ≡ true) × ((i : ℕ) → i < k → f i ≡ false)
+    go true u a b ih q = ih q
+    go false true a b ih q = let h : k ≡ n = cc in (ap f h ∙ b, λ i l. none_at n f a i (omega arith))
+    go false false a b ih q = absurd (let z : ◌≡◌ {A = ℕ} 0 1 = cc in omega arith)

@@ -21,7 +21,6 @@ use Rattle.raster_read.specs.declared.search.Cell.{Cell}
 
 -- ---- the first cell
 
-
 abbrev pixel_of : ℤ → ℤ → Pixel
 pixel_of x y = record { column = x; row = y }
 

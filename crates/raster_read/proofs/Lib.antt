@@ -2,3 +2,5 @@ pub mod Rows
 pub mod Passing
 pub mod Searching
 pub mod Cells
+pub mod SearchFacts
+pub mod Known

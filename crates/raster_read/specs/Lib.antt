@@ -1,2 +1,4 @@
 pub mod Row
 pub mod Search
+pub mod SearchFacts
+pub mod Known
