@@ -1,6 +1,6 @@
 -- A list of band calls: each accepted one adds the figure's pixels in its rows, each refused one nothing, so after all of them
 -- the raster is the start plus the figure's pixels in the accepted rows.
-use Prim.Native.Nat.{ℕ, zero, suc, ◌+◌, ◌/◌, ◌≤◌, ◌<◌}
+use Prim.Native.Nat.{ℕ, zero, suc, ◌+◌, ◌/◌, ◌≤◌}
 use mathlib.Core.Path.{◌≡◌, refl, sym, ap, ap₂, ◌∙◌}
 use mathlib.Core.Bool.{Bool, true, false, cond, not, ◌&&◌, ◌||◌, and-or_distrib_right}
 use mathlib.Core.List.{List, [], ◌∷◌}

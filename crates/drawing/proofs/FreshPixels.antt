@@ -1,6 +1,6 @@
 -- A drawing either marks the pixels of its predicate and counts the unmarked ones among them, or is refused, changes nothing
 -- and has no fresh pixels.
-use Prim.Native.Nat.{ℕ, zero, suc, ◌+◌}
+use Prim.Native.Nat.{ℕ, zero, suc}
 use mathlib.Core.Path.{◌≡◌, refl, sym, ap, ◌∙◌}
 use mathlib.Core.Bool.{Bool, not, ◌&&◌, ◌||◌, or_self}
 use mathlib.Core.List.{List, [], ◌∷◌}
@@ -30,7 +30,7 @@ use Rattle.drawing.proofs.Once.{none_counted}
 
 module _ (w : Window) (s : List ℕ) where
   -- by the first condition met, 0 for none, whatever is counted
-  pub adds_by : (n k : ℕ) (P : ℤ → ℤ → Bool) → (n ≡ 0 → Shaped w (length s)) → Adds w s (unless_refused n (plus w s P) s) (answer n (counts k (fresh_count w s P)))
+  pub adds_by : (n k : ℕ) (P : ℤ → ℤ → Bool) → (n ≡ 0 → Shaped w (length s)) → Adds w s (unless_refused n (plus w s P) s) (fresh_of (answer n (counts k (fresh_count w s P))))
   adds_by zero k P shape = marked-plus w s (shape refl) P
   adds_by (suc n) k P shape = sym (add-zero (marked_count w s))
 
@@ -49,12 +49,12 @@ module _ (w : Window) (s : List ℕ) where
       ap (λ (t : Bool). not t && P (w.left +ℤ pos c) (w.top +ℤ pos r)) (none_counted w (marked w s) z c r lc lr)))
 
 module _ (f : Figure) (d : Drawable f) (w : Window) where
-  band : (s : List ℕ) (b : Band) → Adds w s (band_after f w s b) (band_answer f w s b)
+  band : (s : List ℕ) (b : Band) → Adds w s (band_after f w s b) (fresh_of (band_answer f w s b))
   band s b =
       adds_by w s (first_met (band_conditions f w (length s) b)) _ _
       (λ h. (rows_frame w (length s) b (rows_passed f d w (length s) b h)).shape)
 
-  bands : (s : List ℕ) (list : List Band) → marked_count w (after_bands f w s list) ≡ marked_count w s + fresh_calls f w s list
+  bands : (s : List ℕ) (list : List Band) → Adds w s (after_bands f w s list) (fresh_calls f w s list)
   unfolding after_bands fresh_calls
   bands s [] = sym (add-zero (marked_count w s))
   bands s (b ∷ bs) = omega (arith, band s b, bands (band_after f w s b) bs)

@@ -18,6 +18,6 @@ counts_of (refused_at n place) = counts 0 0
 abbrev pub fresh_of : Answer Counts → ℕ
 fresh_of a = (counts_of a).fresh
 
--- the raster t has as many marked pixels more than s as the answer a says are fresh, padding apart
-abbrev pub Adds : Window → List ℕ → List ℕ → Answer Counts → Type 0
-Adds w s t a = marked_count w t ≡ marked_count w s + fresh_of a
+-- the raster t has n marked pixels more than s, padding apart
+abbrev pub Adds : Window → List ℕ → List ℕ → ℕ → Type 0
+Adds w s t n = marked_count w t ≡ marked_count w s + n

@@ -12,6 +12,7 @@ use Rattle.refusal.proofs.Conditions.{append_none, append_clear}
 use Rattle.raster.specs.Window.{frame_conditions}
 use Rattle.raster.specs.Fresh.{marked_count}
 use Rattle.raster.specs.declared.window.Window.{Window}
+use Rattle.drawing.specs.Counts.{Adds}
 use Rattle.drawing.specs.Band.{band_out, rows_conditions}
 use Rattle.drawing.specs.declared.band.Band.{Band}
 use Rattle.raster.proofs.Frames.{Shaped, frame, frame_numbered}
@@ -50,7 +51,7 @@ module _ (file : List ℕ) (w : Window) (s : List ℕ) (b : Band) where
       (frame w (length s) (append_none (frame_conditions w (length s)) ((6, band_out w b) ∷ []) (frame_numbered w (length s)) rows).0).shape
 
   adds : (n : ℕ) → number ≡ n → (p : Option FramePart)
-      → marked_count w (unless_refused n (part_raster file p w b s) s) ≡ marked_count w s + fresh_of_frame (answer n (part_counts file p w s b))
+      → Adds w s (unless_refused n (part_raster file p w b s) s) (fresh_of_frame (answer n (part_counts file p w s b)))
   adds zero e None = sym (add-zero (marked_count w s))
   adds zero e (Some part) = marked-plus w s (shaped e) _
   adds (suc n) e p = sym (add-zero (marked_count w s))

@@ -3,8 +3,8 @@
 use Rattle.std.specs.Prelude.{ℕ, ◌+◌, ◌<◌, ◌≡◌, false, List, ℤ, length}
 use Rattle.std.specs.Prelude.{Option, None, Some}
 use Rattle.refusal.specs.Refusal.{Answer, given, refused_at, answer, unless_refused, first_met}
-use Rattle.raster.specs.Fresh.{marked_count}
 use Rattle.raster.specs.declared.window.Window.{Window}
+use Rattle.drawing.specs.Counts.{Adds}
 use Rattle.drawing.specs.Band.{rows_conditions, band_counts, band_raster}
 use Rattle.drawing.specs.declared.band.Band.{Band}
 use Rattle.drawing.specs.declared.counts.Counts.{Counts}
@@ -29,7 +29,7 @@ fresh_of_frame (refused_at n place) = 0
 
 -- after drawing a frame the marked pixels are those before it and the fresh ones, padding apart: for every file, accepted or not
 abbrev pub FrameAdds : List ℕ → ℕ → Window → List ℕ → Band → Type 0
-FrameAdds file k w s b = marked_count w (frame_after file k w s b) ≡ marked_count w s + fresh_of_frame (frame_answer file k w s b)
+FrameAdds file k w s b = Adds w s (frame_after file k w s b) (fresh_of_frame (frame_answer file k w s b))
 
 -- a list and a table that the writer doesn't refuse: drawing frame k of their file draws the frame's records of the list, and
 -- only the window, the raster and the band can refuse it

@@ -14,7 +14,7 @@ use Rattle.raster.specs.Fresh.{marked_count}
 use Rattle.raster.specs.declared.window.Window.{Window}
 use Rattle.raster.proofs.Frames.{frame, frame_numbered}
 use Rattle.raster.proofs.Fresh.{marked-plus}
-use Rattle.drawing.specs.Counts.{Adds}
+use Rattle.drawing.specs.Counts.{fresh_of, Adds}
 use Rattle.drawing.specs.Drawing.{draw_counts, draw_raster}
 use Rattle.runs.specs.Painting.{first_bad, runs_figure, paint_conditions, painted}
 use Rattle.runs.specs.FreshPixels.{PaintAdds}
@@ -22,7 +22,7 @@ use Rattle.runs.specs.FreshPixels.{PaintAdds}
 module _ (axis : Axis) (k : ℕ) (list : List ℤ) (w : Window) (s : List ℕ) where
   adds : (n : ℕ) → first_met (paint_conditions w (length s) list k) ≡ n → (bad : Option ℕ)
       → let a = painted n bad (draw_counts (runs_figure axis list k) w s) in
-      Adds w s (unless_refused (number_of a) (draw_raster (runs_figure axis list k) w s) s) a
+      Adds w s (unless_refused (number_of a) (draw_raster (runs_figure axis list k) w s) s) (fresh_of a)
   adds zero h None =
       marked-plus w s (frame w (length s) (append_none (frame_conditions w (length s)) _ (frame_numbered w (length s)) h).0).shape _
   adds zero h (Some place) = sym (add-zero (marked_count w s))

@@ -3,8 +3,8 @@
 use Rattle.std.specs.Prelude.{ℕ, List, ℤ}
 use Rattle.coordinate.specs.declared.axis.Axis.{Axis}
 use Rattle.raster.specs.declared.window.Window.{Window}
-use Rattle.drawing.specs.Counts.{Adds}
+use Rattle.drawing.specs.Counts.{fresh_of, Adds}
 use Rattle.runs.specs.Painting.{paint_answer, paint_after}
 
 abbrev pub PaintAdds : Axis → ℕ → List ℤ → Window → List ℕ → Type 0
-PaintAdds axis n list w s = Adds w s (paint_after axis n list w s) (paint_answer axis n list w s)
+PaintAdds axis n list w s = Adds w s (paint_after axis n list w s) (fresh_of (paint_answer axis n list w s))
