@@ -1,6 +1,6 @@
 -- Document 02, 2/13: what follows for the frames of an accepted file, and of a file that the writer writes. The proofs are in
 -- proofs/FrameFacts.antt. Assumes nothing.
-use Rattle.std.specs.Prelude.{ℕ, ◌+◌, ◌<◌, ◌≡◌, false, List, ℤ, length}
+use Rattle.std.specs.Prelude.{ℕ, ◌<◌, ◌≡◌, false, List, ℤ, length}
 use Rattle.std.specs.Prelude.{Option, None, Some}
 use Rattle.refusal.specs.Refusal.{Answer, given, refused_at, answer, unless_refused, first_met}
 use Rattle.raster.specs.declared.window.Window.{Window}
