@@ -1,12 +1,13 @@
 -- Document 01, 'Known lines': the lettered lines, line E as document 02, 4/13, has it, and halves in every direction, as
 -- statements about the definitions; their proof, by computation, is in proofs/Known.antt. Assumes nothing.
-use Rattle.std.specs.Prelude.{ℕ, ◌+◌, ◌-◌, ◌≡◌, List, [], ◌∷◌, pos}
+use Rattle.std.specs.Prelude.{ℕ, ◌+◌, ◌≡◌, cond, List, [], ◌∷◌, pos, eqb}
 use Rattle.counting.specs.Count.{each}
+use Rattle.coordinate.specs.Coordinate.{apart}
 use Rattle.coordinate.specs.declared.axis.Axis.TheVariants.{X, Y}
+use Rattle.coordinate.specs.declared.pixel.Pixel.{Pixel}
 use Rattle.raster.specs.declared.window.Window.{Window}
 use Rattle.drawing.specs.Drawing.{draw_counts, draw_raster}
-use Rattle.line.specs.Line.{long, axis, pixel}
-use Rattle.line.specs.Distance.{distance}
+use Rattle.line.specs.Line.{long, axis, pixel, long_of, across_of}
 use Rattle.line.specs.Figure.{line_count, line_figure}
 use Rattle.line.specs.Shorthand.{from, at, minus}
 use Rattle.line.specs.declared.ends.Ends.{Ends}
@@ -16,10 +17,15 @@ use Rattle.line_list.specs.Runs.{lies, runs}
 abbrev pub sized : ℕ → ℕ → Window
 sized width height = record { left = pos 0; top = pos 0; width = width; height = height }
 
--- a code for each step, 1 for a diagonal one
+-- the code of the step from pixel p to pixel q: 1 where both coordinates go on by one, 0 where the long one alone does; 2 where the
+-- long one does not
+abbrev pub step_code : Ends → Pixel → Pixel → ℕ
+step_code e p q = cond (eqb (apart (long_of e p) (long_of e q)) 1) (apart (across_of e p) (across_of e q)) 2
+
+-- a code for each step of the line
 unfoldable pub codes : Ends → List ℕ
-unfolding long distance
-codes e = each (long e) (λ i. distance e (i + 1) - distance e i)
+unfolding long pixel long_of across_of
+codes e = each (long e) (λ i. step_code e (pixel e i) (pixel e (i + 1)))
 
 -- line H
 abbrev pub line_h : Ends
