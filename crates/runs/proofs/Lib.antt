@@ -6,3 +6,4 @@ pub mod Counted
 pub mod Outcome
 pub mod FreshPixels
 pub mod Paints
+pub mod Known
