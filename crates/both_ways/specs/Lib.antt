@@ -1,3 +1,4 @@
 pub mod BothWays
 pub mod EqualRaster
 pub mod Exchanged
+pub mod Known
