@@ -6,4 +6,5 @@ pub mod Exchanged
 pub mod Nudge
 pub mod Shorthand
 pub mod KnownNudges
+pub mod KnownRange
 pub mod Trace
