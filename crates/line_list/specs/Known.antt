@@ -17,8 +17,8 @@ use Rattle.line_list.specs.Runs.{lies, runs}
 abbrev pub sized : ℕ → ℕ → Window
 sized width height = record { left = pos 0; top = pos 0; width = width; height = height }
 
--- the code of the step from pixel p to pixel q: 1 where both coordinates go on by one, 0 where the long one alone does; 2 where the
--- long one does not
+-- the code of the step from pixel p to pixel q, by how far it goes across: 1 where both coordinates differ, 0 where the long one alone
+-- does; 2 where the long one does not go by one
 abbrev pub step_code : Ends → Pixel → Pixel → ℕ
 step_code e p q = cond (eqb (apart (long_of e p) (long_of e q)) 1) (apart (across_of e p) (across_of e q)) 2
 
