@@ -1,2 +1,3 @@
 pub mod Coordinate
 pub mod Nearest
+pub mod Known
