@@ -8,4 +8,5 @@ pub mod Unended
 pub mod Splitting
 pub mod Fours
 pub mod Returning
+pub mod FirstBytes
 pub mod Known

@@ -3,5 +3,6 @@
 
 pub mod answer;
 pub mod print;
+pub mod program;
 pub mod read;
 pub mod text;
