@@ -1,4 +1,5 @@
 pub mod Reading
 pub mod Writing
 pub mod Written
+pub mod Listing
 pub mod Program

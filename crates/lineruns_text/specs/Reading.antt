@@ -2,6 +2,7 @@
 -- end of input; a number is an optional minus and 1 to 6 digits. Assumes nothing.
 use Rattle.std.specs.Prelude.{ℕ, ◌+◌, ◌-◌, ◌*◌, Bool, cond, ◌&&◌, Option, None, Some, List, [], ◌∷◌, ℤ, pos, neg_ℤ, length, ltb, leb, eqb}
 use Rattle.std.specs.List.{slice_split}
+use Rattle.refusal.specs.Refusal.{Answer, given, refused}
 use Rattle.line.specs.declared.ends.Ends.{Ends}
 
 -- the characters that mean something
@@ -70,7 +71,12 @@ four (a ∷ b ∷ c ∷ []) = None
 four (a ∷ b ∷ c ∷ d ∷ []) = ends_of (number a) (number b) (number c) (number d)
 four (a ∷ b ∷ c ∷ d ∷ e ∷ ws) = None
 
--- the line that the input is; none is refusal 9: over 64 bytes, or not one such line and nothing after
+-- the line that the input is; none where it is over 64 bytes, or is not one such line and nothing after
 unfoldable pub line_of : List ℕ → Option Ends
 unfolding four words unended
 line_of s = cond (ltb 64 (length s)) None (four (words (unended s)))
+
+-- what reading answers: the line, or 9 where there is none
+abbrev pub read_answer : Option Ends → Answer Ends
+read_answer None = refused 9
+read_answer (Some e) = given e

@@ -1,8 +1,8 @@
 -- Document 01, 'Operations': what `lineruns` prints. Assumes nothing.
 use Rattle.std.specs.Prelude.{ℕ, zero, suc, ◌+◌, ◌/◌, ◌%◌, Bool, cond, List, [], ◌∷◌, ◌++◌, ℤ, pos, negsuc, ltb}
-use Rattle.std.specs.Prelude.{Option, None, Some}
+use Rattle.std.specs.Prelude.{Option, None, Some, is_none}
 use Rattle.coordinate.specs.Coordinate.{along}
-use Rattle.refusal.specs.Refusal.{first_met}
+use Rattle.refusal.specs.Refusal.{Answer, given, refused_at, answer, first_met}
 use Rattle.runs.specs.Run.{Run}
 use Rattle.line.specs.Line.{short, axis, ends_conditions}
 use Rattle.line.specs.declared.ends.Ends.{Ends}
@@ -54,19 +54,30 @@ unfolding run_line
 run_lines [] = []
 run_lines (r ∷ rs) = run_line r ++ run_lines rs
 
--- 1, then 5: S + 1 is above 5000
-abbrev pub print_conditions : Ends → List (ℕ × Bool)
-print_conditions e = ends_conditions e ++ ((5, ltb 5000 (short e + 1)) ∷ [])
+-- of a line: 1, then 5, S + 1 is above 5000
+abbrev pub line_conditions : Option Ends → List (ℕ × Bool)
+line_conditions None = []
+line_conditions (Some e) = ends_conditions e ++ ((5, ltb 5000 (short e + 1)) ∷ [])
 
-abbrev pub told : ℕ → Ends → List ℕ
-told zero e = axis_line e ++ run_lines (runs e)
-told (suc n) e = refused_line (suc n)
+-- what refuses an input, by the line that it is: 9, there is none, is tested first
+abbrev pub print_conditions : Option Ends → List (ℕ × Bool)
+print_conditions line = (9, is_none line) ∷ line_conditions line
 
--- all that is printed for an input: 9 is tested first
-abbrev pub answer_to : Option Ends → List ℕ
-answer_to None = refused_line 9
-answer_to (Some e) = told (first_met (print_conditions e)) e
+-- the axis and the runs of a line
+abbrev pub list_text : Option Ends → List ℕ
+list_text None = []
+list_text (Some e) = axis_line e ++ run_lines (runs e)
 
+-- what is answered: the list's text, or a refusal
+abbrev pub print_answer : Option Ends → Answer (List ℕ)
+print_answer line = answer (first_met (print_conditions line)) (list_text line)
+
+-- and how it is told: a refusal by its number
+abbrev pub told : Answer (List ℕ) → List ℕ
+told (given text) = text
+told (refused_at n place) = refused_line n
+
+-- all that is printed for an input
 unfoldable pub printed : List ℕ → List ℕ
 unfolding line_of axis_line refused_line run_lines
-printed input = answer_to (line_of input)
+printed input = told (print_answer (line_of input))

@@ -1,8 +1,10 @@
 // Reading the line: four numbers with single blanks between.
 ghost use Rattle.std.specs.Prelude.{◌≡◌, ◌<◌, IfSome};
-ghost use Rattle.lineruns_text.specs.Reading.{digits, number, words, four, line_of};
+ghost use Rattle.refusal.specs.Refusal.{answered};
+ghost use Rattle.lineruns_text.specs.Reading.{digits, number, words, four, line_of, read_answer};
 
 use line::ends::Ends;
+use refusal::Refusal;
 
 // The most bytes that an input has, and the most digits of a number.
 const LONGEST_INPUT: usize = 64;
@@ -52,12 +54,12 @@ fn four_numbers(text: &[u8]) -> Option<Ends>
     }
 }
 
-// The line that the input is: at most 64 bytes, four numbers, at most one newline at the end.
-pub fn read_line(input: &[u8]) -> Option<Ends>
-    ensures { result ≡ line_of input.now }
+// The line that the input is: at most 64 bytes, four numbers, at most one newline at the end. Any other input is refused (9).
+pub fn read_line(input: &[u8]) -> Result<Ends, Refusal>
+    ensures { answered result ≡ read_answer (line_of input.now) }
 {
     if LONGEST_INPUT < input.len() {
-        return None;
+        return Err(Refusal::Input);
     }
-    four_numbers(input.strip_suffix(b"\n").unwrap_or(input))
+    four_numbers(input.strip_suffix(b"\n").unwrap_or(input)).ok_or(Refusal::Input)
 }
