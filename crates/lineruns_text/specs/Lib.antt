@@ -3,3 +3,4 @@ pub mod Writing
 pub mod Written
 pub mod Listing
 pub mod Program
+pub mod Known

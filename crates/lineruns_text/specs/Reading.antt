@@ -71,10 +71,14 @@ four (a ∷ b ∷ c ∷ []) = None
 four (a ∷ b ∷ c ∷ d ∷ []) = ends_of (number a) (number b) (number c) (number d)
 four (a ∷ b ∷ c ∷ d ∷ e ∷ ws) = None
 
+-- an input has at most 64 bytes
+abbrev pub over_long : List ℕ → Bool
+over_long s = ltb 64 (length s)
+
 -- the line that the input is; none where it is over 64 bytes, or is not one such line and nothing after
 unfoldable pub line_of : List ℕ → Option Ends
 unfolding four words unended
-line_of s = cond (ltb 64 (length s)) None (four (words (unended s)))
+line_of s = cond (over_long s) None (four (words (unended s)))
 
 -- what reading answers: the line, or 9 where there is none
 abbrev pub read_answer : Option Ends → Answer Ends

@@ -54,12 +54,12 @@ unfolding run_line
 run_lines [] = []
 run_lines (r ∷ rs) = run_line r ++ run_lines rs
 
--- of a line: 1, then 5, S + 1 is above 5000
+-- what refuses a line: 1, then 5, where S + 1 is above 5000
 abbrev pub line_conditions : Option Ends → List (ℕ × Bool)
 line_conditions None = []
 line_conditions (Some e) = ends_conditions e ++ ((5, ltb 5000 (short e + 1)) ∷ [])
 
--- what refuses an input, by the line that it is: 9, there is none, is tested first
+-- what refuses an input, by the line that it is: 9, where it is none, then what refuses the line
 abbrev pub print_conditions : Option Ends → List (ℕ × Bool)
 print_conditions line = (9, is_none line) ∷ line_conditions line
 
@@ -72,7 +72,7 @@ list_text (Some e) = axis_line e ++ run_lines (runs e)
 abbrev pub print_answer : Option Ends → Answer (List ℕ)
 print_answer line = answer (first_met (print_conditions line)) (list_text line)
 
--- and how it is told: a refusal by its number
+-- what is printed of an answer: of a refusal its number
 abbrev pub told : Answer (List ℕ) → List ℕ
 told (given text) = text
 told (refused_at n place) = refused_line n
