@@ -6,7 +6,7 @@ use Rattle.coordinate.specs.Nearest.{floor_div, nearest}
 use Rattle.refusal.specs.Refusal.{first_met}
 use Rattle.pen.specs.Worth.{numerator, denominator, nearest_to}
 use Rattle.pen.specs.Touching.{not_finite, rounded_out}
-use Rattle.pen.specs.Known.{point, KnownReports}
+use Rattle.pen.specs.Known.{point, KnownReports, KnownWorths}
 
 pub known_reports : KnownReports
 unfolding of_bits out_of_range floor_div nearest first_met numerator denominator nearest_to not_finite rounded_out point
@@ -41,5 +41,20 @@ known_reports =
       nan_then_out = refl;
       hovering = refl;
       hovering_nan = refl;
+      hovering_out = refl;
       lifted = refl;
+    }
+
+pub known_worths : KnownWorths
+unfolding of_bits numerator denominator
+known_worths =
+    record {
+      three_fourths = refl;
+      minus_three_fourths = refl;
+      past_highest = refl;
+      large = refl;
+      plus-zero = refl;
+      minus-zero = refl;
+      smallest = refl;
+      largest = refl;
     }

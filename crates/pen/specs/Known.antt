@@ -1,10 +1,11 @@
--- Known reports, the floats by their bits, as statements about the definitions; their proof, by computation, is in
+-- Known reports and worths, the floats by their bits, as statements about the definitions; their proof, by computation, is in
 -- proofs/Known.antt. Assumes nothing.
-use Rattle.std.specs.Prelude.{ℕ, ◌-◌, ◌≡◌, ℤ, pos, negsuc, Option, None, Some}
+use Rattle.std.specs.Prelude.{ℕ, ◌-◌, ◌*◌, ◌^◌, ◌≡◌, ℤ, pos, negsuc, ◌*ℤ◌, Option, None, Some}
 use Rattle.std.specs.Float.{binary32}
 use Rattle.std.specs.Float.Ieee.{of_bits}
 use Rattle.coordinate.specs.declared.pixel.Pixel.{Pixel}
 use Rattle.refusal.specs.Refusal.{Answer, given, refused}
+use Rattle.pen.specs.Worth.{numerator, denominator}
 use Rattle.pen.specs.Touching.{touch_answer}
 use Rattle.pen.specs.declared.report.Point.{Point}
 use Rattle.pen.specs.declared.report.Report.TheVariants.{Touching, Hovering, Lifted}
@@ -74,4 +75,22 @@ pub record KnownReports : Type 0 where
   -- a pen that is not touching is not refused
   pub hovering : touch_answer (Hovering (point 0x3f00_0000 0x3f00_0000)) ≡ given None
   pub hovering_nan : touch_answer (Hovering (point 0x7fc0_0000 0x7f80_0000)) ≡ given None
+  pub hovering_out : touch_answer (Hovering (point 0x467f_fe00 0xc680_0101)) ≡ given None
   pub lifted : touch_answer Lifted ≡ given None
+
+-- the float with these bits is exactly n / d
+abbrev pub Worth : ℕ → ℤ → ℕ → Type 0
+Worth bits n d = pos d *ℤ numerator (of_bits binary32 bits) ≡ n *ℤ pos (denominator (of_bits binary32 bits))
+
+pub record KnownWorths : Type 0 where
+  -- 3 / 4 and −3 / 4, 16383 + 1/2, 2^25
+  pub three_fourths : Worth 0x3f40_0000 (pos 3) 4
+  pub minus_three_fourths : Worth 0xbf40_0000 (minus 3) 4
+  pub past_highest : Worth 0x467f_fe00 (pos 32767) 2
+  pub large : Worth 0x4c00_0000 (pos 33554432) 1
+  -- zeros
+  pub plus-zero : Worth 0x0000_0000 (pos 0) 1
+  pub minus-zero : Worth 0x8000_0000 (pos 0) 1
+  -- the smallest float above 0, which is 2^−149, and the largest, which is (2^24 − 1) × 2^104
+  pub smallest : Worth 0x0000_0001 (pos 1) (2 ^ 149)
+  pub largest : Worth 0x7f7f_ffff (pos (16777215 * 2 ^ 104)) 1
