@@ -20,7 +20,9 @@ pub(crate) fn letter(axis: Axis) -> u8
 }
 
 impl Text<'_> {
-    // Appends the line of the refusal of number `n`.
+    // Appends the line of the refusal of number `n`. It is a call of its own: in line, LLVM would copy the number's digits by the C
+    // library's `memcpy`.
+    #[inline(never)]
     pub fn push_refused(&mut self, n: u32)
         requires { HasRoom self.old (length (refused_line n)) }
         ensures { Appended (refused_line n) self.old self.new }
