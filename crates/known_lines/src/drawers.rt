@@ -94,8 +94,8 @@ impl Case<'_> {
     }
 }
 
-// Draws the line by the second drawer and answers its count.
-fn draw_second(ends: Ends, window: Window, raster: &mut [u8]) -> u64 {
+// Draws the line by the second drawer in the rows of these bands, and answers its counts there.
+pub fn draw_second(ends: Ends, window: Window, bands: &[[u32; 2]], raster: &mut [u8]) -> Counts {
     let place = |x, y| Place {
         x: from_lowest(x),
         y: from_lowest(y),
@@ -104,6 +104,7 @@ fn draw_second(ends: Ends, window: Window, raster: &mut [u8]) -> u64 {
         first: place(window.left, window.top),
         width: window.width,
         height: window.height,
+        bands,
     };
     second::draw(
         place(ends.x0, ends.y0),
@@ -119,7 +120,7 @@ pub fn alike(ends: Ends, window: Window, refusal: Option<Refusal>) -> bool {
     on_clear(bytes(window), |raster| {
         let count = match refusal {
             Some(refusal) => Err(refusal),
-            None => Ok(draw_second(ends, window, raster)),
+            None => Ok(draw_second(ends, window, &[[0, window.height]], raster).count),
         };
         let case = Case {
             ends,

@@ -1,11 +1,11 @@
 // Document 01's lettered lines: their axis and runs, and the raster where the document gives one.
 use crate::drawers::{alike, bytes, on_clear};
-use crate::print::{print_counts, print_end, print_ends, print_window};
+use crate::print::{print_bytes, print_counts, print_end, print_ends, print_window};
 use crate::small::{LIST, WINDOW};
 use coordinate::Axis;
 use line::ends::Ends;
 use line_draw::draw::{draw_double, draw_single};
-use line_list::list::list_runs;
+use line_list::list::{Listing, list_runs};
 use raster::window::Window;
 use std::io;
 
@@ -23,12 +23,18 @@ pub fn print_runs(rt: &impl Print, runs: &[[i32; 3]]) -> io::Result<()> {
 // Prints the axis and the runs that the lister gives.
 fn print_list(rt: &impl Print, ends: Ends) -> io::Result<()> {
     let mut list = [0i32; LIST];
-    let Ok(listing) = list_runs(ends, &mut list) else {
-        return rt.print(": refused");
-    };
+    rt.print(": ")?;
+    match list_runs(ends, &mut list) {
+        Ok(listing) => print_listing(rt, listing, &list),
+        Err(_) => rt.print("refused"),
+    }
+}
+
+// Prints the axis and the runs of a listed line.
+pub fn print_listing(rt: &impl Print, listing: Listing, list: &[i32]) -> io::Result<()> {
     rt.print(match listing.axis {
-        Axis::X => ": axis x, runs",
-        Axis::Y => ": axis y, runs",
+        Axis::X => "axis x, runs",
+        Axis::Y => "axis y, runs",
     })?;
     let (runs, _) = list.as_chunks::<3>();
     print_runs(rt, runs.get(..listing.runs as usize).unwrap_or(&[]))
@@ -59,10 +65,7 @@ fn print_drawing_on(
 ) -> io::Result<()> {
     match draw_single(ends, window, raster) {
         Ok(counts) => {
-            rt.print("bytes")?;
-            for byte in raster.iter() {
-                print!(rt; " {byte}")?;
-            }
+            print_bytes(rt, "bytes", raster)?;
             rt.print(", ")?;
             print_counts(rt, counts)?;
         }

@@ -2,7 +2,7 @@
 ghost use Rattle.std.specs.Prelude.{◌≤◌};
 
 use crate::drawers::{alike, bytes, on_clear};
-use crate::print::print_end;
+use crate::print::{print_answer, print_end};
 use line::ends::Ends;
 use line_draw::draw::draw_single;
 use line_list::list::list_runs;
@@ -29,14 +29,6 @@ fn list_refusal(ends: Ends, n: usize) -> Option<Refusal>
 // The refusal that the window's maker answers, none where it makes the window.
 fn maker_refusal(window: Window) -> Option<Refusal> {
     Window::new(window.left, window.top, window.width, window.height).err()
-}
-
-// Prints how an operation answered: `taken`, or the refusal's number.
-fn print_answer(rt: &impl Print, refusal: Option<Refusal>) -> io::Result<()> {
-    match refusal {
-        None => rt.print(" taken"),
-        Some(refusal) => print!(rt; " refused {}", refusal.number()),
-    }
 }
 
 // Prints the single-step drawer's answer and ends the line, with `differ` unless all drawers are alike and `other` is the same.

@@ -1,6 +1,8 @@
-// The second drawer: each coordinate by one division a step, from the definition, every pixel tested against the window.
-// Coordinates are counted from the lowest. It shares no code with the drawers that it is compared with.
+// The second drawer: each coordinate by one division a step, from the definition, every pixel tested against the window and
+// the bands. Coordinates are counted from the lowest. It shares no code with the drawers that it is compared with.
 ghost use Rattle.std.specs.Prelude.{◌<◌, ◌≤◌};
+
+use drawing::counts::Counts;
 
 // A pixel by its column and row.
 #[derive(Clone, Copy)]
@@ -9,12 +11,26 @@ pub struct Place {
     pub y: u32,
 }
 
-// The window: its first column and row, and its size.
+// The window: its first column and row, and its size; and the bands that are drawn, each by its first row and how many.
 #[derive(Clone, Copy)]
-pub struct Frame {
+pub struct Frame<'a> {
     pub first: Place,
     pub width: u32,
     pub height: u32,
+    pub bands: &'a [[u32; 2]],
+}
+
+// Whether a band has rows and ends within the height.
+pub fn accepted(band: [u32; 2], height: u32) -> bool {
+    let [first, rows] = band;
+    rows != 0 && u64::from(first) + u64::from(rows) <= u64::from(height)
+}
+
+// Whether an accepted band takes the row in.
+fn drawn(row: u32, frame: Frame) -> bool {
+    frame.bands.iter().any(|&[first, rows]| accepted([first, rows], frame.height)
+        && first <= row
+        && row - first < rows)
 }
 
 // The whole number nearest to the coordinate at step `i` of `l` on the exact way from `a` to `b`, a half to the larger. The
@@ -28,38 +44,41 @@ fn nearest(a: u32, b: u32, l: u32, i: u32) -> u32
     (2 * (a * (l - i) + b * i) + l) / (2 * l)
 }
 
-// Marks a pixel of the frame and answers 1, or answers 0 where it is not in the window.
-fn mark(pixel: Place, frame: Frame, raster: &mut [u8]) -> u64
-    ensures { result ≤ 1 }
-{
+// Marks a pixel and answers whether it was unmarked; none where it is not in the window or no accepted band takes its row in.
+fn mark(pixel: Place, frame: Frame, raster: &mut [u8]) -> Option<bool> {
     let Place { x, y } = frame.first;
     if pixel.x < x || pixel.y < y {
-        return 0;
+        return None;
     }
     let column = pixel.x - x;
     let row = pixel.y - y;
-    if frame.width <= column || frame.height <= row {
-        return 0;
+    if frame.width <= column || frame.height <= row || !drawn(row, frame) {
+        return None;
     }
     let bytes = frame.width.div_ceil(8) as usize;
-    if let Some(byte) = raster.get_mut(row as usize * bytes + column as usize / 8) {
-        *byte |= 128u8 >> (column % 8);
-    }
-    1
+    let byte = raster.get_mut(row as usize * bytes + column as usize / 8)?;
+    let bit = 128u8 >> (column % 8);
+    let unmarked = *byte & bit == 0;
+    *byte |= bit;
+    Some(unmarked)
 }
 
-// Marks the line's pixels in the window and answers how many they are.
-pub fn draw(from: Place, to: Place, frame: Frame, raster: &mut [u8]) -> u64
+// Marks the line's pixels in the bands' rows of the window, and answers how many they are and how many were unmarked.
+pub fn draw(from: Place, to: Place, frame: Frame, raster: &mut [u8]) -> Counts
     requires { (from.x < 32768) × (from.y < 32768) × (to.x < 32768) × (to.y < 32768) }
 {
     let l = from.x.abs_diff(to.x).max(from.y.abs_diff(to.y));
     let mut count: u64 = 0;
+    let mut fresh: u64 = 0;
     for i in 0..=l {
         let pixel = Place {
             x: nearest(from.x, to.x, l, i),
             y: nearest(from.y, to.y, l, i),
         };
-        count += mark(pixel, frame, raster);
+        if let Some(unmarked) = mark(pixel, frame, raster) {
+            count += 1;
+            fresh += u64::from(unmarked);
+        }
     }
-    count
+    Counts { count, fresh }
 }
