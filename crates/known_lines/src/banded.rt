@@ -1,22 +1,17 @@
 // Lines drawn by lists of bands, two numbers to a band, compared with the second drawer in the rows of the accepted bands.
 use crate::drawers::draw_second;
 use crate::placed::{CLEAR, G, K, LEFTWARDS, MARKED_G, MARKED_K, Placed, Raster};
-use crate::print::{print_bands, print_bytes, print_calls, print_end, print_ends, print_window};
-use crate::second::accepted;
+use crate::print::{print_bytes, print_end, print_placed};
+use crate::second::refused;
 use drawing::calls::BandCalls;
 use line::ends::Ends;
 use line_draw::draw::draw_bands;
 use raster::window::Window;
 use std::io;
 
-// Bands of line K, of which rows 2 and 1 alone are accepted: the others have no rows or end below the window.
-const MIXED: [u32; 16] = [
-    0, 0, 2, 1, 3, 2, 4294967295, 2, 4, 1, 1, 1, 0, 5, 2147483648, 2147483648,
-];
-
 // Whether the calls answered and left what the second drawer gives on the same start, in the rows of the accepted bands. Outside
 // the limits none is accepted, as in a window without rows.
-pub fn alike(
+pub fn calls_alike(
     placed: Placed,
     start: Raster,
     bands: &[u32],
@@ -28,21 +23,11 @@ pub fn alike(
         window.height = 0;
     }
     let (pairs, _) = bands.as_chunks::<2>();
-    let refused = pairs
-        .iter()
-        .filter(|band| !accepted(**band, window.height))
-        .count();
     let mut expected = start;
     let counts = draw_second(placed.ends, window, pairs, &mut expected);
-    calls.refused == refused && calls.fresh == counts.fresh && raster == expected
-}
-
-// Prints a list of bands, then the line and its window.
-pub fn print_head(rt: &impl Print, placed: Placed, bands: &[u32]) -> io::Result<()> {
-    print_bands(rt, bands)?;
-    rt.print(": ")?;
-    print_ends(rt, placed.ends)?;
-    print_window(rt, placed.window)
+    calls.refused == refused(pairs, window.height)
+        && calls.fresh == counts.fresh
+        && raster == expected
 }
 
 // Prints the start, what the calls answered and the raster that they left.
@@ -53,9 +38,8 @@ pub fn print_drawn(
     raster: Raster,
 ) -> io::Result<()> {
     print_bytes(rt, "start", &start)?;
-    rt.print(", ")?;
-    print_calls(rt, calls)?;
-    print_bytes(rt, ", bytes", &raster)
+    print!(rt; ", refused {}, fresh {}, ", calls.refused, calls.fresh)?;
+    print_bytes(rt, "bytes", &raster)
 }
 
 // Prints a line drawn by a list of bands on a start.
@@ -68,11 +52,9 @@ fn show(
 ) -> io::Result<()> {
     let mut raster = start;
     let calls = draw_bands(placed.ends, placed.window, bands, &mut raster);
-    rt.print("bands ")?;
-    rt.print(name)?;
-    print_head(rt, placed, bands)?;
+    print_placed(rt, "bands ", name, placed)?;
     print_drawn(rt, start, calls, raster)?;
-    print_end(rt, alike(placed, start, bands, calls, raster))
+    print_end(rt, calls_alike(placed, start, bands, calls, raster))
 }
 
 // Prints line K by lists of which some bands or all are accepted, or that have none.
@@ -82,7 +64,15 @@ fn show_k(rt: &impl Print) -> io::Result<()> {
     show(rt, "out of order", K, CLEAR, &[2, 1, 0, 1, 3, 1])?;
     show(rt, "overlapping", K, CLEAR, &[0, 3, 1, 3, 1, 1])?;
     show(rt, "repeated", K, MARKED_K, &[1, 2, 1, 2, 2, 1, 1, 1])?;
-    show(rt, "refused among others", K, MARKED_K, &MIXED)?;
+    show(
+        rt,
+        "refused among others",
+        K,
+        MARKED_K,
+        &[
+            0, 0, 2, 1, 3, 2, 4294967295, 2, 4, 1, 1, 1, 0, 5, 2147483648, 2147483648,
+        ],
+    )?;
     show(rt, "all refused", K, MARKED_K, &[4, 0, 0, 0, 4, 1, 3, 2])?;
     show(rt, "and a number", K, CLEAR, &[0, 2, 3])?;
     show(rt, "none but a number", K, MARKED_K, &[0])?;

@@ -1,16 +1,19 @@
 // Lines drawn both ways: listed and painted in one raster, by a list of bands in another.
 ghost use Rattle.std.specs.Prelude.{◌≤◌};
 
-use crate::banded::{self, print_drawn, print_head};
+use crate::banded::{calls_alike, print_drawn};
 use crate::drawers::draw_second;
 use crate::lettered::print_listing;
 use crate::placed::{CLEAR, G, K, LEFTWARDS, MARKED_G, MARKED_K, Placed, Raster};
-use crate::print::{print_answer, print_bytes, print_counts, print_end, print_ends, print_window};
+use crate::print::{
+    print_answer, print_bytes, print_counts, print_end, print_ends, print_placed, print_window,
+};
 use both_ways::draw::draw_both_ways;
 use drawing::counts::Counts;
 use line::ends::Ends;
 use line_list::list::{Listing, list_runs};
 use raster::window::Window;
+use refusal::Refusal;
 use std::io;
 
 // A list before it is written: four runs, and the rest of it.
@@ -32,57 +35,41 @@ fn painted_alike(placed: Placed, start: Raster, counts: Counts, raster: Raster) 
     draw_second(placed.ends, placed.window, &whole, &mut expected) == counts && raster == expected
 }
 
-// Prints the start, the painter's counts and the raster that it left.
-fn print_painted(rt: &impl Print, start: Raster, counts: Counts, raster: Raster) -> io::Result<()> {
-    print_bytes(rt, "; start", &start)?;
-    rt.print(", ")?;
-    print_counts(rt, counts)?;
-    print_bytes(rt, ", bytes", &raster)?;
-    rt.print("; ")
-}
-
 // Prints a line drawn both ways: listed and painted on the first start, and by a list of bands on the second.
 fn show(
     rt: &impl Print,
+    name: &str,
     placed: Placed,
     bands: &[u32],
     first: Raster,
     second: Raster,
 ) -> io::Result<()> {
+    let Placed { ends, window, .. } = placed;
     let mut list = LIST;
     let mut painted = first;
     let mut banded = second;
-    rt.print("both ways, bands")?;
-    print_head(rt, placed, bands)?;
-    match draw_both_ways(
-        placed.ends,
-        placed.window,
-        &mut list,
-        bands,
-        &mut painted,
-        &mut banded,
-    ) {
-        Ok(both) => {
-            print_listing(rt, both.listing, &list)?;
-            print_painted(rt, first, both.painted, painted)?;
-            print_drawn(rt, second, both.banded, banded)?;
-            let listed = listed_alike(placed.ends, both.listing, list);
-            let as_painted = painted_alike(placed, first, both.painted, painted);
-            print_end(
-                rt,
-                listed && as_painted && banded::alike(placed, second, bands, both.banded, banded),
-            )
-        }
-        Err(_) => {
-            rt.print("refused")?;
-            print_end(rt, false)
-        }
-    }
+    print_placed(rt, "both ways ", name, placed)?;
+    let Ok(both) = draw_both_ways(ends, window, &mut list, bands, &mut painted, &mut banded) else {
+        return rt.print("refused differ\n");
+    };
+    print_listing(rt, both.listing, &list)?;
+    print_bytes(rt, "; start", &first)?;
+    rt.print(", ")?;
+    print_counts(rt, both.painted)?;
+    print_bytes(rt, ", bytes", &painted)?;
+    rt.print("; ")?;
+    print_drawn(rt, second, both.banded, banded)?;
+    let listed = listed_alike(ends, both.listing, list);
+    let as_painted = painted_alike(placed, first, both.painted, painted);
+    let as_banded = calls_alike(placed, second, bands, both.banded, banded);
+    print_end(rt, listed && as_painted && as_banded)
 }
 
-// Prints by what a line is refused with a list of `n` numbers and rasters of `a` and `b` bytes, which are to be left as they were.
+// Prints by what a line is refused with a list of `n` numbers and rasters of `a` and `b` bytes. It is to be this refusal, and to
+// leave all three as they were.
 fn show_refused(
     rt: &impl Print,
+    refusal: Refusal,
     ends: Ends,
     window: Window,
     n: usize,
@@ -106,13 +93,13 @@ fn show_refused(
     print_ends(rt, ends)?;
     print_window(rt, window)?;
     print!(rt; "list of {n} numbers, rasters of {a} and {b} bytes")?;
-    let refusal = answer.err();
-    print_answer(rt, refusal)?;
+    let other = answer.err();
+    print_answer(rt, other)?;
     let kept = list == LIST && painted == MARKED_K && banded == MARKED_G;
-    print_end(rt, refusal.is_some() && kept)
+    print_end(rt, kept && other == Some(refusal))
 }
 
-// Prints line K with every refusal, the later ones met as well.
+// Prints line K refused by each number, with the later ones met as well; then by two that are met alone, where it could be listed.
 fn show_order(rt: &impl Print) -> io::Result<()> {
     let column = Window {
         left: -16385,
@@ -123,27 +110,42 @@ fn show_order(rt: &impl Print) -> io::Result<()> {
         x1: 16384,
         ..K.ends
     };
-    show_refused(rt, ends, width, 11, 7, 7)?;
-    show_refused(rt, K.ends, width, 11, 7, 7)?;
-    show_refused(rt, K.ends, column, 11, 7, 7)?;
+    show_refused(rt, Refusal::Ends, ends, width, 11, 7, 7)?;
+    show_refused(rt, Refusal::WindowSize, K.ends, width, 11, 7, 7)?;
+    show_refused(rt, Refusal::WindowPlace, K.ends, column, 11, 7, 7)?;
+    show_refused(rt, Refusal::RasterLength, K.ends, K.window, 11, 7, 8)?;
+    show_refused(rt, Refusal::RasterLength, K.ends, K.window, 11, 8, 7)?;
+    show_refused(rt, Refusal::ListLength, K.ends, K.window, 11, 8, 8)?;
     let last_column = Window {
         left: 16373,
         ..K.window
     };
-    show_refused(rt, K.ends, last_column, 12, 8, 8)?;
-    show_refused(rt, K.ends, K.window, 11, 7, 8)?;
-    show_refused(rt, K.ends, K.window, 11, 8, 7)?;
-    show_refused(rt, K.ends, K.window, 11, 8, 8)
+    show_refused(rt, Refusal::WindowPlace, K.ends, last_column, 12, 8, 8)?;
+    show_refused(rt, Refusal::RasterLength, K.ends, K.window, 12, 8, 7)
 }
 
 // Prints the lines.
 pub fn show_all(rt: &impl Print) -> io::Result<()> {
-    show(rt, K, &[0, 1, 1, 1, 2, 1, 3, 1], CLEAR, CLEAR)?;
-    show(rt, K, &[3, 1, 1, 3, 0, 0, 0, 2, 4, 1], MARKED_K, MARKED_K)?;
-    show(rt, K, &[2, 1, 0, 1], MARKED_K, MARKED_K)?;
-    show(rt, K, &[0, 4], CLEAR, MARKED_K)?;
-    show(rt, K, &[1, 3, 4], MARKED_K, CLEAR)?;
-    show(rt, G, &[4, 4, 0, 4], MARKED_G, MARKED_G)?;
-    show(rt, LEFTWARDS, &[], CLEAR, CLEAR)?;
+    show(rt, "in order", K, &[0, 1, 1, 1, 2, 1, 3, 1], CLEAR, CLEAR)?;
+    show(
+        rt,
+        "refused among others",
+        K,
+        &[3, 1, 1, 3, 0, 0, 0, 2, 4, 1],
+        MARKED_K,
+        MARKED_K,
+    )?;
+    show(rt, "not in every row", K, &[2, 1, 0, 1], MARKED_K, MARKED_K)?;
+    show(rt, "whole", K, &[0, 4], CLEAR, MARKED_K)?;
+    show(rt, "and a number", K, &[1, 3, 4], MARKED_K, CLEAR)?;
+    show(
+        rt,
+        "refused and whole",
+        G,
+        &[4, 5, 0, 8],
+        MARKED_G,
+        MARKED_G,
+    )?;
+    show(rt, "by no band", LEFTWARDS, &[], CLEAR, CLEAR)?;
     show_order(rt)
 }

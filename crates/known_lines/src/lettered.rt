@@ -1,5 +1,6 @@
 // Document 01's lettered lines: their axis and runs, and the raster where the document gives one.
 use crate::drawers::{alike, bytes, on_clear};
+use crate::placed::K;
 use crate::print::{print_bytes, print_counts, print_end, print_ends, print_window};
 use crate::small::{LIST, WINDOW};
 use coordinate::Axis;
@@ -118,11 +119,5 @@ pub fn show_all(rt: &impl Print) -> io::Result<()> {
         y1: 0,
     };
     show_in(rt, 'J', j, 4, 1)?;
-    let h = Ends {
-        x0: 0,
-        y0: 0,
-        x1: 11,
-        y1: 3,
-    };
-    show_in(rt, 'K', h, 12, 4)
+    show_in(rt, 'K', K.ends, 12, 4)
 }

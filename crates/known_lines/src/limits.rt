@@ -2,6 +2,7 @@
 ghost use Rattle.std.specs.Prelude.{◌≤◌};
 
 use crate::drawers::{alike, bytes, on_clear};
+use crate::placed::K;
 use crate::print::{print_answer, print_end};
 use line::ends::Ends;
 use line_draw::draw::draw_single;
@@ -84,13 +85,7 @@ fn show_list(rt: &impl Print, n: usize) -> io::Result<()>
     requires { n ≤ 12 }
 {
     print!(rt; "line H's list of {n} numbers")?;
-    let ends = Ends {
-        x0: 0,
-        y0: 0,
-        x1: 11,
-        y1: 3,
-    };
-    print_answer(rt, list_refusal(ends, n))?;
+    print_answer(rt, list_refusal(K.ends, n))?;
     rt.print("\n")
 }
 

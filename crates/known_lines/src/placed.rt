@@ -14,7 +14,7 @@ pub struct Placed {
     pub within: bool,
 }
 
-// Line K.
+// Line K, which is line H in a window.
 pub const K: Placed = Placed {
     ends: Ends {
         x0: 0,

@@ -1,5 +1,5 @@
-// Printing lines, windows, bands, counts, rasters and answers.
-use drawing::calls::BandCalls;
+// Printing lines, windows, counts, rasters and answers.
+use crate::placed::Placed;
 use drawing::counts::Counts;
 use line::ends::Ends;
 use raster::window::Window;
@@ -29,18 +29,13 @@ pub fn print_window(rt: &impl Print, window: Window) -> io::Result<()> {
     print!(rt; " in left {left}, top {top}, width {width}, height {height}: ")
 }
 
-// Prints a list of bands, the first row and the number of rows of each.
-pub fn print_bands(rt: &impl Print, bands: &[u32]) -> io::Result<()> {
-    for number in bands {
-        print!(rt; " {number}")?;
-    }
-    Ok(())
-}
-
-// Prints how many calls were refused and how many pixels are fresh.
-pub fn print_calls(rt: &impl Print, calls: BandCalls) -> io::Result<()> {
-    let BandCalls { refused, fresh } = calls;
-    print!(rt; "refused {refused}, fresh {fresh}")
+// Prints what is shown and its name, then the line and its window.
+pub fn print_placed(rt: &impl Print, text: &str, name: &str, placed: Placed) -> io::Result<()> {
+    rt.print(text)?;
+    rt.print(name)?;
+    rt.print(": ")?;
+    print_ends(rt, placed.ends)?;
+    print_window(rt, placed.window)
 }
 
 // Prints a text and a raster's bytes.

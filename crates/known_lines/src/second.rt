@@ -21,16 +21,29 @@ pub struct Frame<'a> {
 }
 
 // Whether a band has rows and ends within the height.
-pub fn accepted(band: [u32; 2], height: u32) -> bool {
-    let [first, rows] = band;
+fn accepted(first: u32, rows: u32, height: u32) -> bool {
     rows != 0 && u64::from(first) + u64::from(rows) <= u64::from(height)
 }
 
+// How many bands are not accepted; at most as many as there are, so it never wraps.
+pub fn refused(bands: &[[u32; 2]], height: u32) -> usize {
+    let mut refused: usize = 0;
+    for &[first, rows] in bands {
+        if !accepted(first, rows, height) {
+            refused = refused.wrapping_add(1);
+        }
+    }
+    refused
+}
+
 // Whether an accepted band takes the row in.
-fn drawn(row: u32, frame: Frame) -> bool {
-    frame.bands.iter().any(|&[first, rows]| accepted([first, rows], frame.height)
-        && first <= row
-        && row - first < rows)
+fn in_bands(row: u32, frame: Frame) -> bool {
+    for &[first, rows] in frame.bands {
+        if accepted(first, rows, frame.height) && first <= row && row - first < rows {
+            return true;
+        }
+    }
+    false
 }
 
 // The whole number nearest to the coordinate at step `i` of `l` on the exact way from `a` to `b`, a half to the larger. The
@@ -52,7 +65,7 @@ fn mark(pixel: Place, frame: Frame, raster: &mut [u8]) -> Option<bool> {
     }
     let column = pixel.x - x;
     let row = pixel.y - y;
-    if frame.width <= column || frame.height <= row || !drawn(row, frame) {
+    if frame.width <= column || frame.height <= row || !in_bands(row, frame) {
         return None;
     }
     let bytes = frame.width.div_ceil(8) as usize;
@@ -77,7 +90,9 @@ pub fn draw(from: Place, to: Place, frame: Frame, raster: &mut [u8]) -> Counts
         };
         if let Some(unmarked) = mark(pixel, frame, raster) {
             count += 1;
-            fresh += u64::from(unmarked);
+            if unmarked {
+                fresh += 1;
+            }
         }
     }
     Counts { count, fresh }
