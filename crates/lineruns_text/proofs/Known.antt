@@ -58,7 +58,7 @@ known_inputs =
 
 pub known_lists : KnownLists
 unfolding printed first_met ends_out out_of_range short axis runs each count run_first run_pixels
-known_lists = record { A = refl; E = refl; G = refl; H = refl; I = refl; highest = refl; lowest = refl }
+known_lists = record { A = refl; E = refl; G = refl; H = refl; five_lines = refl; I = refl; highest = refl; lowest = refl }
 
 pub known_refusals : KnownRefusals
 unfolding printed first_met ends_out out_of_range short

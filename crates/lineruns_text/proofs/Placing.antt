@@ -1,6 +1,6 @@
 -- Appending a text and then another behind it is appending both.
-use Rattle.std.proofs.Common.{◌≡◌, ℕ, ◌+◌, ◌≤◌, ◌<◌, List, [], ◌∷◌, ◌++◌, length, take, drop, set, add-one, arith, refl, sym, ap, ◌∙◌, append_assoc, length-append, length-drop}
-use Rattle.std.proofs.lemmas.List.{length-take-le, length-set, drop-drop, take_at, set_split}
+use Rattle.std.proofs.Common.{◌≡◌, ℕ, ◌+◌, ◌≤◌, ◌<◌, List, [], ◌∷◌, ◌++◌, length, take, drop, set, add-one, arith, refl, sym, ap, ap₂, ◌∙◌, append_assoc, length-append, length-drop}
+use Rattle.std.proofs.lemmas.List.{length-take-le, length-set, drop-drop, take-append-drop, take_at, set_split}
 use lib.Seq.{drop-append-add, paste-zero}
 use native.Mathlib.Nat.{add_assoc}
 use Rattle.lineruns_text.specs.Written.{written, Appended}
@@ -65,4 +65,19 @@ one {byte} {x} {y} room same next bytes =
       within = omega (arith, size);
       size = size;
       bytes = bytes ∙ set_split x.output.now x.len byte room ∙ rw (append_assoc, add-one);
+    }
+
+-- a text that stands where the text so far ends, with the bytes before and behind it as they were
+pub placed : {text : List ℕ} {x y : Text} → x.len + length text ≤ length x.output.now → y.output.ghost_name ≡ x.output.ghost_name → y.len ≡ x.len + length text
+    → drop x.len y.output.now ≡ text ++ drop (x.len + length text) x.output.now → take x.len y.output.now ≡ take x.len x.output.now → Appended text x y
+unfolding written
+placed {text} {x} {y} room same next behind before =
+    let bytes : y.output.now ≡ written x.len text x.output.now =
+    sym (take-append-drop x.len y.output.now) ∙ ap₂ (λ (s t : List ℕ). s ++ t) before behind ∙ sym (append_assoc (take x.len x.output.now) text (drop (x.len + length text) x.output.now)) in
+    let size = ap length bytes ∙ length-written x.len text x.output.now room in record {
+      same_buffer = same;
+      len = next;
+      within = omega (arith, size);
+      size = size;
+      bytes = bytes;
     }

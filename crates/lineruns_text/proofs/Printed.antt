@@ -1,5 +1,10 @@
 -- What std prints of a number is the number in decimal, so each line is the texts that are appended, one after the other.
-use Rattle.std.proofs.Common.{◌≡◌, ℕ, suc, ◌<◌, ◌^◌, List, [], ◌∷◌, ◌++◌, ℤ, pos, negsuc, arith, rules, ap, append_assoc}
+use Rattle.std.proofs.Common.{◌≡◌, true, false, ℕ, suc, ◌<◌, ◌^◌, List, [], ◌∷◌, ◌++◌, ℤ, pos, negsuc, arith, rules, refl, ap, append_assoc}
+use Rattle.std.specs.Int.Signed.{lt_z}
+use lib.IntN.{nat_abs}
+use lib.Dec.{ltb}
+use borrow.Author.Tests.{le-ltb}
+use Rattle.counting.proofs.Boolean.{clash}
 use Rattle.std.specs.Fmt as std
 use Rattle.std.proofs.lemmas.Fmt.{AppendsLastDigit, decimal_from_appends, length-decimal-le}
 use mir.Syntax.{w32}
@@ -44,3 +49,12 @@ pub run_is : (across lowest : ℤ) (pixels : ℕ) → SFits w32 across → SFits
     → run_line (record { across = across; lowest = lowest; pixels = pixels }) ≡ (std.signed_decimal across ++ (32 ∷ [])) ++ ((std.signed_decimal lowest ++ (32 ∷ [])) ++ ended pixels)
 unfolding run_line
 run_is across lowest pixels a l p = rw (signed_is across a, signed_is lowest l, decimal_is pixels p) (simp append_assoc)
+
+-- a number is its sign and its digits
+pub signed_below : (z : ℤ) → lt_z z (pos 0) ≡ true → std.signed_decimal z ≡ (45 ∷ []) ++ std.decimal (nat_abs z)
+signed_below (pos n) e = absurd (clash (lt_z (pos n) (pos 0)) (let none : ltb n 0 ≡ false = le-ltb n 0 (omega arith) in none) e)
+signed_below (negsuc n) e = refl
+
+pub signed_natural : (z : ℤ) → lt_z z (pos 0) ≡ false → std.signed_decimal z ≡ std.decimal (nat_abs z)
+signed_natural (pos n) e = refl
+signed_natural (negsuc n) e = absurd (clash (lt_z (negsuc n) (pos 0)) e refl)

@@ -61,6 +61,9 @@ pub record KnownLists : Type 0 where
       ≡ ended (codes "axis y runs 4") ++ ended (codes "0 0 2") ++ ended (codes "1 2 2") ++ ended (codes "2 4 2") ++ ended (codes "3 6 2")
   pub H : printed (ended (codes "0 0 11 3"))
       ≡ ended (codes "axis x runs 4") ++ ended (codes "0 0 2") ++ ended (codes "1 2 4") ++ ended (codes "2 6 4") ++ ended (codes "3 10 2")
+  -- the same input as document 01 gives it, without a newline
+  pub five_lines : printed (codes "0 0 11 3")
+      ≡ ended (codes "axis x runs 4") ++ ended (codes "0 0 2") ++ ended (codes "1 2 4") ++ ended (codes "2 6 4") ++ ended (codes "3 10 2")
   pub I : printed (codes "0 0 -11 -3")
       ≡ ended (codes "axis x runs 4") ++ ended (codes "0 -1 2") ++ ended (codes "-1 -5 4") ++ ended (codes "-2 -9 4") ++ ended (codes "-3 -11 2")
   pub highest : printed (codes "16383 -0 16383 0") ≡ ended (codes "axis x runs 1") ++ ended (codes "0 16383 1")

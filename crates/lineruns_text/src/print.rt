@@ -47,9 +47,12 @@ impl Text<'_> {
         requires { HasRoom self.old (length (run_line (record { across = across; lowest = lowest; pixels = pixels }))) }
         ensures { Appended (run_line (record { across = across; lowest = lowest; pixels = pixels })) self.old self.new }
     {
-        self.push_number(across, b" ");
-        self.push_number(lowest, b" ");
-        self.push_number(pixels, b"\n");
+        self.push_signed(across);
+        self.push(b" ");
+        self.push_signed(lowest);
+        self.push(b" ");
+        self.push_decimal(pixels);
+        self.push(b"\n");
     }
 
     // Appends the lines of a list's runs. A run within the limits makes a line of at most 20 bytes.
