@@ -50,7 +50,7 @@ impl Text<'_> {
     }
 
     // Appends a number in decimal, its digits written where they stay. Written into a buffer of their own and copied, as `push_number`
-    // has them, those of a list take more than half as long again.
+    // has them, those of a list take half as long again.
     pub(crate) fn push_decimal(&mut self, n: u32)
         requires { HasRoom self.old (length (decimal n)) }
         ensures { Appended (decimal n) self.old self.new }
