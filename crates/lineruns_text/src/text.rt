@@ -49,8 +49,8 @@ impl Text<'_> {
         self.push(end);
     }
 
-    // Appends a number in decimal, its digits written where they stay. Written into a buffer of their own and copied, as `push_number`
-    // has them, those of a list take half as long again.
+    // Appends a number in decimal, its digits written where they stay. A run's numbers go this way: formatted in a buffer of their own
+    // and copied, as `push_number` does it, they make the longest list take half as long again.
     pub(crate) fn push_decimal(&mut self, n: u32)
         requires { HasRoom self.old (length (decimal n)) }
         ensures { Appended (decimal n) self.old self.new }
